@@ -1,0 +1,145 @@
+-- Decimal numbers: how wide one is, and that reading and writing one undo each other.
+use Prim.Native.Nat.{ℕ, zero, suc, _+_, _-_, _*_, _/_, _%_, _^_, _≤_, _<_}
+use mathlib.Core.Path.{_≡_, refl, sym, ap, _∙_}
+use mathlib.Core.List.{List, [], _∷_}
+use mathlib.Core.Bool.{true, false}
+use native.Mathlib.Omega.{arith}
+use native.Mathlib.Nat.{pow-le-pow-right, one-le-pow, le-div-iff-mul-le, div-lt-iff-lt-mul, mod-eq-of-lt, one-mul, pow-succ', div-eq-of-lt}
+use lib.ListN.{length, getD}
+use lib.Dec.{ltb, eqb}
+use borrow.Author.Tests.{lt-ltb, le-ltb, eq-eqb, ne-eqb, ltb-true, ltb-false, eqb-true, eqb-false}
+use Rattle.text.specs.Parts.{free}
+use Rattle.text.specs.Digits.{glyphOf, scan, pad}
+use Rattle.text.specs.Number.{widest, readNumber, widthFrom, widthOf, digits}
+use Rattle.text.specs.declared.Number.the-variants.{Is, Bad}
+use Rattle.text.proofs.Picks.{cases, order, picked, passed}
+use Rattle.text.proofs.Digits.{bad-is, length-pad, pad-free, pad-digit, scan-pad, scan-below, pad-scan}
+
+ten-le : {i j : ℕ} → i ≤ j → 10 ^ i ≤ 10 ^ j
+ten-le h = pow-le-pow-right (omega arith) h
+
+-- the width found is among those looked at
+within : (f w n : ℕ) → (w ≤ widthFrom f w n) × (widthFrom f w n ≤ w + f)
+within zero w n = (omega arith, omega arith)
+within (suc f) w n =
+    let h = within f (suc w) n in
+    cases (ltb n (10 ^ w)) (λ e. rw e (omega arith, omega arith)) (λ e. rw e (omega arith, omega arith))
+
+-- and holds the number, unless the looking came to its end
+holds : (f w n : ℕ) → widthFrom f w n < w + f → n < 10 ^ widthFrom f w n
+holds zero w n h = absurd (omega arith)
+holds (suc f) w n h =
+    cases (ltb n (10 ^ w))
+    (λ e. rw e (ltb-true _ _ e))
+    (λ e. let k : widthFrom f (suc w) n < w + suc f = rw e at h in rw e (holds f (suc w) n (omega arith)))
+
+-- and none that holds it is less
+least : (f w n j : ℕ) → w ≤ j → n < 10 ^ j → widthFrom f w n ≤ j
+least zero w n j h l = h
+least (suc f) w n j h l =
+    order n (10 ^ w)
+    (λ k. rw (lt-ltb _ _ k) h)
+    (λ k. rw (le-ltb _ _ k) (order w j (λ m. least f (suc w) n j m l) (λ m. let p = ten-le m in absurd (omega arith))))
+
+-- a number has 1 to 20 digits
+pub width-within : (n : ℕ) → (1 ≤ widthOf n) × (widthOf n ≤ 20)
+unfolding widthOf
+width-within n = within widest 1 n
+
+-- a number that is below a power of ten has no more digits than that
+pub width-bound : (n w : ℕ) → n < 10 ^ w → 1 ≤ w → widthOf n ≤ w
+unfolding widthOf
+width-bound n w h l = least widest 1 n w l h
+
+width-narrow : (n : ℕ) → widthOf n ≤ widest → n < 10 ^ widthOf n
+unfolding widthOf
+width-narrow n h = holds widest 1 n (omega arith)
+
+-- its digits hold a number of 64 bits
+pub width-holds : (n : ℕ) → n < 18446744073709551616 → n < 10 ^ widthOf n
+width-holds n h =
+    order 19 (widthOf n)
+    (λ k. let p : 10 ^ 20 ≤ 10 ^ widthOf n = ten-le k in omega arith)
+    (λ k. width-narrow n k)
+
+-- the text of a number is as long as the number is wide
+pub length-digits : (n : ℕ) → length (digits n) ≡ widthOf n
+unfolding digits
+length-digits n = length-pad 10 (widthOf n) n
+
+-- no byte below the digits' stands in it: no tab and no newline
+pub digits-free : (c n : ℕ) → c < 48 → free c (digits n) ≡ true
+unfolding digits
+digits-free c n h = pad-free c 10 (widthOf n) n h
+
+first-digit : (j n : ℕ) → n < 10 ^ suc j → getD (pad 10 (suc j) n) 0 0 ≡ glyphOf (n / 10 ^ j)
+first-digit j n h =
+    let e : suc j - 1 - j ≡ 0 = omega arith in
+    let l : n / 10 ^ j < 10 = div-lt-iff-lt-mul (one-le-pow j 10 (omega arith)) .1 (rw pow-succ' at h) in
+    rw (e, mod-eq-of-lt l) at (pad-digit 10 (suc j) j n (omega arith))
+
+zero-glyph : (d : ℕ) → glyphOf d ≡ 48 → d ≡ 0
+zero-glyph d h =
+    order d 10
+    (λ l. let e : 48 + d ≡ 48 = rw (lt-ltb _ _ l) at h in omega arith)
+    (λ l. let e : 87 + d ≡ 48 = rw (le-ltb _ _ l) at h in absurd (omega arith))
+
+-- a number of more than one digit does not begin with a zero
+no-zero : (n : ℕ) → widthOf n ≤ widest → 1 < widthOf n → getD (digits n) 0 0 ≡ 48 → ⊥
+unfolding digits
+no-zero n h l z =
+    let j = widthOf n - 1 in
+    let e : widthOf n ≡ suc j = omega arith in
+    let b : n < 10 ^ suc j = rw e at (width-narrow n h) in
+    let d : n / 10 ^ j ≡ 0 = zero-glyph (n / 10 ^ j) (sym (first-digit j n b) ∙ rw e at z) in
+    let o : 10 ^ j ≤ n = order n (10 ^ j) (λ m. let k = width-bound n j m (omega arith) in absurd (omega arith)) (λ m. m) in
+    let q = le-div-iff-mul-le {k = 10 ^ j} {x = 1} {y = n} (one-le-pow j 10 (omega arith)) .1 (rw one-mul o) in
+    omega arith
+
+scan-digits : (n : ℕ) → widthOf n ≤ widest → scan 10 0 (digits n) ≡ Is n
+unfolding digits
+scan-digits n h = scan-pad 10 (omega arith) (omega arith) (widthOf n) 0 n (width-narrow n h) ∙ ap Is (omega arith)
+
+-- the text of a number of at most so many digits is read as that number
+pub read-digits : (most n : ℕ) → widthOf n ≤ most → widthOf n ≤ widest → readNumber most (digits n) ≡ Is n
+unfolding readNumber
+read-digits most n h l =
+    let w = width-within n in
+    let some : widthOf n ≡ 0 → ⊥ = λ e. omega arith in
+    rw (length-digits n, ne-eqb _ _ some, le-ltb _ _ h, le-ltb _ _ l)
+    (cases (eqb (widthOf n) 1)
+    (λ e. rw (e, scan-digits n l))
+    (λ e. let k : 1 < widthOf n = let o = eqb-false (widthOf n) 1 e in order 1 (widthOf n) (λ m. m) (λ m. absurd (o (omega arith))) in
+    rw (e, ne-eqb _ _ (no-zero n l k), scan-digits n l)))
+
+-- digits that begin with a zero only where there is but one are the width of their value
+width-read : (s : List ℕ) (n j : ℕ) → scan 10 0 s ≡ Is n → length s ≡ suc j → j < widest → (1 ≤ j → getD s 0 0 ≡ 48 → ⊥) → widthOf n ≡ length s
+width-read s n j u l h big =
+    let b : n < 10 ^ suc j = rw (← l) (let x = scan-below 10 (omega arith) (omega arith) s 0 n u in omega arith) in
+    let p : pad 10 (suc j) n ≡ s = rw l at (pad-scan 10 (omega arith) (omega arith) s n u) in
+    let o = width-bound n (suc j) b (omega arith) in
+    let w = width-within n in
+    order (widthOf n) (suc j)
+    (λ k.
+    let m : n < 10 ^ j = let y = ten-le {i = widthOf n} {j = j} (omega arith) in omega (arith, width-narrow n (omega arith)) in
+    let z : getD s 0 0 ≡ 48 = rw (← p) (first-digit j n b ∙ rw (div-eq-of-lt m)) in
+    absurd (big (omega arith) z))
+    (λ k. omega arith)
+
+-- a field that is read as a number is the text of that number, which is no wider than asked for
+pub digits-read : (most : ℕ) (s : List ℕ) (n : ℕ) → readNumber most s ≡ Is n → (digits n ≡ s) × (widthOf n ≤ most)
+unfolding readNumber digits
+digits-read most s n u =
+    let a = passed (eqb (length s) 0) bad-is u in
+    let b = passed (ltb most (length s)) bad-is (a .1) in
+    let c = passed (ltb widest (length s)) bad-is (b .1) in
+    let j = length s - 1 in
+    let l : length s ≡ suc j = order 0 (length s) (λ m. omega arith) (λ m. absurd (eqb-false (length s) 0 (a .0) (omega arith))) in
+    let k : j < widest = omega (arith, ltb-false widest (length s) (c .0)) in
+    let done : scan 10 0 s ≡ Is n → (1 ≤ j → getD s 0 0 ≡ 48 → ⊥) → (digits n ≡ s) × (widthOf n ≤ most) =
+    λ v big.
+    let w = width-read s n j v l k big in
+    (rw w (pad-scan 10 (omega arith) (omega arith) s n v), omega (arith, ltb-false most (length s) (b .0))) in
+    cases (eqb (length s) 1)
+    (λ e. done (rw e at (c .1)) (λ o. let q = eqb-true (length s) 1 e in absurd (omega arith)))
+    (λ e. let d = passed (eqb (getD s 0 0) 48) bad-is (rw e at (c .1)) in done (d .1) (λ o. eqb-false _ _ (d .0)))

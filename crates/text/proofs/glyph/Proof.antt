@@ -1,0 +1,27 @@
+-- `glyph` meets its contract.
+use borrow.Author.Needs.{needs}
+use Rattle.text.proofs.Turns.{glyph-decimal, glyph-letter}
+use Rattle.text.proofs.glyph.Statement.{statement}
+use Rattle.text.proofs.glyph.Tie as tie
+
+add-result : tie.Need-add-result
+add-result c = search needs
+
+cast-result : tie.Need-cast-result
+cast-result c = search needs
+
+returns : tie.Need-returns
+returns c = search (glyph-decimal)
+
+add-result-2 : tie.Need-add-result-2
+add-result-2 c = search needs
+
+cast-result-2 : tie.Need-cast-result-2
+cast-result-2 c = search needs
+
+returns-2 : tie.Need-returns-2
+returns-2 c = search (glyph-letter)
+
+pub glyph-spec : {M : Type 1} → statement M
+glyph-spec =
+    tie.close (tie.spec add-result cast-result returns add-result-2 cast-result-2 returns-2)

@@ -1,0 +1,6 @@
+pub mod Parts
+pub mod Digits
+pub mod Number
+pub mod Set
+pub mod Words
+pub mod Put

@@ -1,0 +1,320 @@
+// Bytes: the numbers, sets, words, lines and fields of which tables, logs and reports are made.
+ghost use mathlib.Core.Path.{_≡_};
+ghost use mathlib.Core.List.{[]};
+ghost use Prim.Native.Nat.{ℕ, _+_, _<_, _≤_, _^_};
+ghost use lib.ListN.{length, getD};
+ghost use lib.Seq.{sets};
+ghost use lib.Dec.{leb};
+ghost use Rattle.text.specs.Parts.{firstAt, fieldAt};
+ghost use Rattle.text.specs.Digits.{glyphOf, valueOf, scan, pad};
+ghost use Rattle.text.specs.Number.{readNumber, widthOf, digits};
+ghost use Rattle.text.specs.Set.{readSet, setDigits, setText};
+ghost use Rattle.text.specs.Words.{sameList, wordIn, wordAt};
+ghost use Rattle.text.specs.Put.{Put};
+
+// The byte that parts the fields of a line.
+pub const TAB: u8 = 9;
+
+// The byte that ends a line.
+pub const NEWLINE: u8 = 10;
+
+// How many digits a set has.
+pub const SET_DIGITS: usize = 16;
+
+// No number of more digits is read, so that each fits.
+const WIDEST: usize = 19;
+
+// What a field says as a number or a set: its value, or bad form.
+pub enum Number {
+    Is(u64),
+    Bad,
+}
+
+// Which word of a set a field is, if it is one.
+pub enum Word {
+    Is(usize),
+    Unknown,
+}
+
+// Where a field of a line starts and ends, if the line has it.
+pub enum Field {
+    At(usize, usize),
+    Absent,
+}
+
+// The powers of ten that 64 bits hold.
+const TENS: [u64; 20] = [
+    1,
+    10,
+    100,
+    1000,
+    10000,
+    100000,
+    1000000,
+    10000000,
+    100000000,
+    1000000000,
+    10000000000,
+    100000000000,
+    1000000000000,
+    10000000000000,
+    100000000000000,
+    1000000000000000,
+    10000000000000000,
+    100000000000000000,
+    1000000000000000000,
+    10000000000000000000,
+];
+
+fn ten_to(k: usize) -> u64
+    requires { ⌜ k < 20 ⌝ }
+    ensures { λ r. ⌜ r ≡ 10 ^ k ⌝ }
+{
+    TENS[k]
+}
+
+// The digit of a byte, or 16.
+fn value(b: u8) -> u64
+    ensures { λ r. ⌜ r ≡ valueOf b ⌝ }
+{
+    if b < 48 {
+        return 16;
+    }
+    if b < 58 {
+        return (b - 48) as u64;
+    }
+    if b < 97 {
+        return 16;
+    }
+    if b < 103 {
+        return (b - 87) as u64;
+    }
+    16
+}
+
+// The byte of a digit.
+fn glyph(d: u64) -> u8
+    requires { ⌜ d < 16 ⌝ }
+    ensures { λ r. ⌜ r ≡ glyphOf d ⌝ }
+{
+    if d < 10 {
+        return (48 + d) as u8;
+    }
+    (87 + d) as u8
+}
+
+// The value of the digits that a field is made of.
+fn read_digits(s: &[u8], base: u64) -> Number
+    requires { ⌜ (0 < base) × (base ^ length (now s) ≤ 18446744073709551616) ⌝ }
+    ensures { λ r. ⌜ r ≡ scan base 0 (now (s .entry)) ⌝ }
+{
+    let mut v: u64 = 0;
+    let mut i = 0;
+    while i < s.len() {
+        let d = value(s[i]);
+        if base <= d {
+            return Number::Bad;
+        }
+        v = v * base + d;
+        i += 1;
+    }
+    Number::Is(v)
+}
+
+// What a field says as a decimal number of at most so many digits.
+pub fn read_number(s: &[u8], most: usize) -> Number
+    ensures { λ r. ⌜ r ≡ readNumber most (now (s .entry)) ⌝ }
+{
+    let n = s.len();
+    if n == 0 {
+        return Number::Bad;
+    }
+    if most < n {
+        return Number::Bad;
+    }
+    if WIDEST < n {
+        return Number::Bad;
+    }
+    if n == 1 {
+        return read_digits(s, 10);
+    }
+    if s[0] == 48 {
+        return Number::Bad;
+    }
+    read_digits(s, 10)
+}
+
+// What a field says as a set.
+pub fn read_set(s: &[u8]) -> Number
+    ensures { λ r. ⌜ r ≡ readSet setDigits (now (s .entry)) ⌝ }
+{
+    if s.len() != SET_DIGITS {
+        return Number::Bad;
+    }
+    read_digits(s, 16)
+}
+
+// How many digits a number has.
+pub fn width(n: u64) -> usize
+    ensures { λ r. ⌜ r ≡ widthOf n ⌝ }
+{
+    let mut w = 1;
+    while w < 20 {
+        if n < ten_to(w) {
+            return w;
+        }
+        w += 1;
+    }
+    w
+}
+
+// Is there room for so many bytes at a place of a buffer of that length?
+pub fn fits(have: usize, at: usize, many: usize) -> bool
+    ensures { λ r. ⌜ r ≡ leb (at + many) have ⌝ }
+{
+    if have < at {
+        return false;
+    }
+    many <= have - at
+}
+
+// Writes the k low digits of n from a place on.
+fn put_digits(buf: &mut [u8], at: usize, base: u64, k: usize, n: u64)
+    requires { ⌜ (0 < base) × (base ≤ 16) × (at + k ≤ length (now buf)) ⌝ }
+    ensures { λ r. ⌜ now (buf .exit) ≡ sets (now (buf .entry)) at (pad base k n) ⌝ }
+{
+    let mut left = n;
+    let mut j = k;
+    while 0 < j {
+        j -= 1;
+        buf[at + j] = glyph(left % base);
+        left /= base;
+    }
+}
+
+// Writes a number at a place, and answers the place after it; where it does not fit, writes nothing and answers the same place.
+pub fn put_number(buf: &mut [u8], at: usize, n: u64) -> usize
+    ensures { λ r. ⌜ Put (now (buf .entry)) at (digits n) r (now (buf .exit)) ⌝ }
+{
+    let w = width(n);
+    if !fits(buf.len(), at, w) {
+        return at;
+    }
+    put_digits(buf, at, 10, w, n);
+    at + w
+}
+
+// Writes a set at a place, as `put_number` does a number.
+pub fn put_set(buf: &mut [u8], at: usize, n: u64) -> usize
+    ensures { λ r. ⌜ Put (now (buf .entry)) at (setText setDigits n) r (now (buf .exit)) ⌝ }
+{
+    if !fits(buf.len(), at, SET_DIGITS) {
+        return at;
+    }
+    put_digits(buf, at, 16, SET_DIGITS, n);
+    at + SET_DIGITS
+}
+
+// Writes bytes at a place, as `put_number` does a number.
+pub fn put_bytes(buf: &mut [u8], at: usize, s: &[u8]) -> usize
+    ensures { λ r. ⌜ Put (now (buf .entry)) at (now (s .entry)) r (now (buf .exit)) ⌝ }
+{
+    if !fits(buf.len(), at, s.len()) {
+        return at;
+    }
+    let mut i = 0;
+    while i < s.len() {
+        buf[at + i] = s[i];
+        i += 1;
+    }
+    at + i
+}
+
+// Are the two the same bytes?
+pub fn same(a: &[u8], b: &[u8]) -> bool
+    ensures { λ r. ⌜ r ≡ sameList (now (a .entry)) (now (b .entry)) ⌝ }
+{
+    if a.len() != b.len() {
+        return false;
+    }
+    let mut i = 0;
+    while i < a.len() {
+        if a[i] != b[i] {
+            return false;
+        }
+        i += 1;
+    }
+    true
+}
+
+// The place of the first b at or after a place, or the end: where a line or a field ends.
+pub fn next_byte(s: &[u8], at: usize, b: u8) -> usize
+    ensures { λ r. ⌜ r ≡ firstAt (now (s .entry)) at b ⌝ }
+{
+    let mut i = at;
+    while i < s.len() {
+        if s[i] == b {
+            return i;
+        }
+        i += 1;
+    }
+    i
+}
+
+// Where field i of a line stands.
+pub fn nth_field(line: &[u8], i: usize) -> Field
+    ensures { λ r. ⌜ r ≡ fieldAt (now (line .entry)) i ⌝ }
+{
+    let mut at = 0;
+    let mut left = i;
+    loop {
+        let e = next_byte(line, at, TAB);
+        if left == 0 {
+            return Field::At(at, e);
+        }
+        if line.len() <= e {
+            return Field::Absent;
+        }
+        at = e + 1;
+        left -= 1;
+    }
+}
+
+// Which word of a set a field is; the set is a line whose fields are its words.
+pub fn word_in(words: &[u8], p: &[u8]) -> Word
+    ensures { λ r. ⌜ r ≡ wordIn (now (words .entry)) (now (p .entry)) ⌝ }
+{
+    let mut at = 0;
+    let mut k = 0;
+    loop {
+        let e = next_byte(words, at, TAB);
+        if same(p, &words[at..e]) {
+            return Word::Is(k);
+        }
+        if words.len() <= e {
+            return Word::Unknown;
+        }
+        at = e + 1;
+        k += 1;
+    }
+}
+
+// Writes word i of a set at a place, as `put_number` does a number; past the last word there is nothing to write.
+pub fn put_word(buf: &mut [u8], at: usize, words: &[u8], i: usize) -> usize
+    ensures { λ r. ⌜ Put (now (buf .entry)) at (wordAt (now (words .entry)) i) r (now (buf .exit)) ⌝ }
+{
+    let Field::At(a, e) = nth_field(words, i) else {
+        return at;
+    };
+    put_bytes(buf, at, &words[a..e])
+}
+
+// How long word i of a set is; past the last word 0.
+pub fn word_width(words: &[u8], i: usize) -> usize
+    ensures { λ r. ⌜ r ≡ length (wordAt (now (words .entry)) i) ⌝ }
+{
+    let Field::At(a, e) = nth_field(words, i) else {
+        return 0;
+    };
+    e - a
+}

@@ -1,0 +1,70 @@
+-- `run` is safe and ends: each line stands within the input, and the next one starts behind it.
+use mathlib.Core.Path.{_≡_}
+use mathlib.Core.List.{List}
+use Prim.Native.Nat.{ℕ, _≤_, _-_}
+use lib.ListN.{length}
+use borrow.Author.Needs.{needs}
+use Rattle.text.specs.Parts.{firstAt}
+use Rattle.text.proofs.Parts.{firstAt-le}
+use Rattle.text_cases.proofs.run.Statement.{statement}
+use Rattle.text_cases.proofs.run.Tie as tie
+
+line-ends : (c : ℕ) (s : List ℕ) (at e : ℕ) → at ≤ length s → e ≡ firstAt s at c → e ≤ length s
+line-ends c s at e h f = rw f (firstAt-le c s at h .1)
+
+abbrev Inv-loop : tie.InvT-loop
+Inv-loop s at₀ at = at ≤ length s
+
+abbrev μ-loop : tie.MeasureT-loop
+μ-loop s at₀ at = length s - at
+
+loop-holds : tie.Need-loop-holds Inv-loop μ-loop
+loop-holds c = search needs
+
+next-byte-requires : tie.Need-next-byte-requires Inv-loop μ-loop
+next-byte-requires c κs = search needs
+
+sub-show : tie.Need-sub-show Inv-loop μ-loop
+sub-show c = search needs
+
+part-show-start : tie.Need-part-show-start Inv-loop μ-loop
+part-show-start c = search needs
+
+part-show-end : tie.Need-part-show-end Inv-loop μ-loop
+part-show-end c = search (needs, line-ends)
+
+show-requires : tie.Need-show-requires Inv-loop μ-loop
+show-requires c κs = search needs
+
+returns : tie.Need-returns Inv-loop μ-loop
+returns c = search needs
+
+add-at : tie.Need-add-at Inv-loop μ-loop
+add-at c = search needs
+
+loop-less : tie.Need-loop-less Inv-loop μ-loop
+loop-less c = search needs
+
+loop-again : tie.Need-loop-again Inv-loop μ-loop
+loop-again c = search needs
+
+returns-2 : tie.Need-returns-2 Inv-loop μ-loop
+returns-2 c = search needs
+
+pub run-spec : {M : Type 1} → statement M
+run-spec =
+    tie.close
+    (tie.spec
+    Inv-loop
+    μ-loop
+    loop-holds
+    next-byte-requires
+    sub-show
+    part-show-start
+    part-show-end
+    show-requires
+    returns
+    add-at
+    loop-less
+    loop-again
+    returns-2)
