@@ -1,0 +1,220 @@
+-- The sound state, sentence by sentence: the test and the record agree, the fresh state is sound, and what executes in a sound state.
+use mathlib.Core.Bool.{Bool, true, false, not}
+use mathlib.Core.Path.{_≡_, refl, ap, subst, subst⁻¹}
+use Prim.Native.Nat.{ℕ, zero, suc, _+_, _≤_, _<_, zero-le}
+use lib.Dec.{T, leb, ltb, leb→le, le→leb, ltb→lt, eqb→eq, lit≤}
+use lib.ListN.{length, getD, replicate}
+use Rattle.model.specs.Tests.{_implies_, one, each}
+use Rattle.model.specs.Limits.{mostTasks, mostActs, mostTicks, ceiling}
+use Rattle.model.specs.Tables.{Table}
+use Rattle.model.specs.States.{noTask, noAct, fresh, taskAt, actAt, byManager, heldBy, holds}
+use Rattle.model.specs.Sound.{atOwn, setsWhileManaging, mayRest, restsUnlessRunning, listedAtEther, stillAtEther, executesWhenSafe, clockOk, fine, fineAct, timerOk, holderOk, waitingOk, countsOk, longestOk, fineTask, apart, isFreshTask, isFreshAct, sound}
+use Rattle.model.specs.declared.Task.{Task}
+use Rattle.model.specs.declared.Act.{Act}
+use Rattle.model.specs.declared.State.{State}
+use Rattle.model.specs.declared.Place.{Place}
+use Rattle.model.specs.declared.Place.the-variants.{Ether, Codel}
+use Rattle.model.specs.declared.Holder.{Holder}
+use Rattle.model.specs.declared.Holder.the-variants.{Manager, Activity}
+use Rattle.model.proofs.Tests.{and-i, and-l, and-r, and-both, imp-i, imp-e, each-at, each-mk}
+
+-- a state has as many rows as the code's arrays
+pub record Shaped (s : State) : Type 0 where
+  pub tasks : length (s .tasks) ≡ mostTasks
+  pub acts : length (s .acts) ≡ mostActs
+
+-- a sound state, sentence by sentence
+pub record Sound (K : Table) (s : State) : Type 0 where
+  pub shape : Shaped s
+  pub date : s .date ≤ ceiling
+  pub tasks : (t : ℕ) → t < K .ntasks → T (fineTask K (s .date) t (taskAt s t))
+  pub acts : (a : ℕ) → a < K .nacts → T (fineAct K a (taskAt s (K .task a)) (actAt s a))
+  pub pairs : (m : ℕ) → m < K .nmutex → T (apart K s m)
+  pub restT : (t : ℕ) → K .ntasks ≤ t → t < mostTasks → T (isFreshTask (taskAt s t))
+  pub restA : (a : ℕ) → K .nacts ≤ a → a < mostActs → T (isFreshAct (actAt s a))
+
+-- a state of that shape that passes the test is sound by the record
+pub sound-of : (K : Table) (s : State) → Shaped s → T (sound K s) → Sound K s
+unfolding sound
+sound-of K s h t =
+    let date = and-both (leb (s .date) ceiling) _ t in
+    let tasks = and-both (each (K .ntasks) (λ t. fineTask K (s .date) t (taskAt s t))) _ (date .1) in
+    let acts = and-both (each (K .nacts) (λ a. fineAct K a (taskAt s (K .task a)) (actAt s a))) _ (tasks .1) in
+    let pairs = and-both (each (K .nmutex) (apart K s)) _ (acts .1) in
+    let rest = and-both (each mostTasks (λ t. leb (K .ntasks) t implies isFreshTask (taskAt s t))) _ (pairs .1) in
+    record {
+      shape = h;
+      date = leb→le _ _ (date .0);
+      tasks = each-at (λ t. fineTask K (s .date) t (taskAt s t)) (K .ntasks) (tasks .0);
+      acts = each-at (λ a. fineAct K a (taskAt s (K .task a)) (actAt s a)) (K .nacts) (acts .0);
+      pairs = each-at (apart K s) (K .nmutex) (pairs .0);
+      restT = past (K .ntasks) mostTasks (λ t. isFreshTask (taskAt s t)) (rest .0);
+      restA = past (K .nacts) mostActs (λ a. isFreshAct (actAt s a)) (rest .1);
+    }
+  where
+    past : (n m : ℕ) (p : ℕ → Bool) → T (each m (λ i. leb n i implies p i)) → (i : ℕ) → n ≤ i → i < m → T (p i)
+    past n m p t i l h = imp-e (leb n i) _ (each-at (λ i. leb n i implies p i) m t i h) (le→leb n i l)
+
+-- and a state that is sound by the record passes the test
+pub of-sound : (K : Table) (s : State) → Sound K s → T (sound K s)
+unfolding sound
+of-sound K s S =
+    and-i (leb (s .date) ceiling) _ (le→leb _ _ (S .date))
+    (and-i (each (K .ntasks) (λ t. fineTask K (s .date) t (taskAt s t))) _ (each-mk _ (K .ntasks) (S .tasks))
+    (and-i (each (K .nacts) (λ a. fineAct K a (taskAt s (K .task a)) (actAt s a))) _ (each-mk _ (K .nacts) (S .acts))
+    (and-i (each (K .nmutex) (apart K s)) _ (each-mk (apart K s) (K .nmutex) (S .pairs))
+    (and-i (each mostTasks (λ t. leb (K .ntasks) t implies isFreshTask (taskAt s t))) _ (past (K .ntasks) mostTasks (λ t. isFreshTask (taskAt s t)) (S .restT)) (past (K .nacts) mostActs (λ a. isFreshAct (actAt s a)) (S .restA))))))
+  where
+    past : (n m : ℕ) (p : ℕ → Bool) → ((i : ℕ) → n ≤ i → i < m → T (p i)) → T (each m (λ i. leb n i implies p i))
+    past n m p h = each-mk (λ i. leb n i implies p i) m (λ i l. imp-i (leb n i) (p i) (λ t. h i (leb→le n i t) l))
+
+same-row : {A : Type 0} (n i : ℕ) (d : A) → getD (replicate n d) i d ≡ d
+same-row zero i d = refl
+same-row (suc n) zero d = refl
+same-row (suc n) (suc i) d = same-row n i d
+
+-- the rows of the fresh state, also past the last
+pub fresh-task : (t : ℕ) → taskAt fresh t ≡ noTask
+fresh-task t = same-row mostTasks t noTask
+
+fresh-act : (a : ℕ) → actAt fresh a ≡ noAct
+fresh-act a = same-row mostActs a noAct
+
+-- the fresh state has that shape, and is sound under every table
+pub fresh-shaped : Shaped fresh
+fresh-shaped = record { tasks = refl; acts = refl }
+
+pub fresh-sound : (K : Table) → T (sound K fresh)
+fresh-sound K = of-sound K fresh (record {
+  shape = fresh-shaped;
+  date = lit≤ tt;
+  tasks = λ t h. subst⁻¹ (λ x. T (fineTask K 0 t x)) (fresh-task t) (and-i (leb 0 (K .period t)) _ (le→leb 0 (K .period t) zero-le) tt);
+  acts = λ a h. rw (fresh-task (K .task a), fresh-act a) tt;
+  pairs = λ m h. rw (fresh-act (K .owner (K .mutex m .lo))) tt;
+  restT = λ t l h. rw (fresh-task t) tt;
+  restA = λ a l h. rw (fresh-act a) tt;
+})
+
+-- an activity's sentences, by name
+pub record Fine (K : Table) (a : ℕ) (m h r l : Bool) (p : Place) (e : Bool) (k : ℕ) : Type 0 where
+  pub own : T (atOwn K a p)
+  pub sets : T (setsWhileManaging m r l)
+  pub rests : T (restsUnlessRunning K h l p e)
+  pub listed : T (listedAtEther h r l p)
+  pub still : T (stillAtEther p e)
+  pub runs : T (executesWhenSafe K h l p e)
+  pub clock : T (clockOk K p e k)
+
+-- an activity's record y under its task's record x
+abbrev pub FineAct : Table → ℕ → Task → Act → Type 0
+FineAct K a x y = Fine K a (x .managing) (heldBy (x .holder) a) (y .run) (y .halt) (y .place) (y .executing) (y .clock)
+
+module _ (K : Table) (a : ℕ) (m h r l : Bool) (p : Place) (e : Bool) (k : ℕ) where
+  pub fine-of : T (fine K a m h r l p e k) → Fine K a m h r l p e k
+  fine-of t =
+      let own = and-both (atOwn K a p) _ t in
+      let sets = and-both (setsWhileManaging m r l) _ (own .1) in
+      let rests = and-both (restsUnlessRunning K h l p e) _ (sets .1) in
+      let listed = and-both (listedAtEther h r l p) _ (rests .1) in
+      let still = and-both (stillAtEther p e) _ (listed .1) in
+      let runs = and-both (executesWhenSafe K h l p e) _ (still .1) in
+      record { own = own .0; sets = sets .0; rests = rests .0; listed = listed .0; still = still .0; runs = runs .0; clock = runs .1 }
+
+  pub of-fine : Fine K a m h r l p e k → T (fine K a m h r l p e k)
+  of-fine f =
+      and-i (atOwn K a p) _ (f .own)
+      (and-i (setsWhileManaging m r l) _ (f .sets)
+      (and-i (restsUnlessRunning K h l p e) _ (f .rests)
+      (and-i (listedAtEther h r l p) _ (f .listed)
+      (and-i (stillAtEther p e) _ (f .still)
+      (and-i (executesWhenSafe K h l p e) _ (f .runs)
+      (f .clock))))))
+
+-- a task's sentences, by name
+pub record FineTask (K : Table) (date t : ℕ) (x : Task) : Type 0 where
+  pub timer : x .timer ≤ K .period t
+  pub holder : T (holderOk K t (x .holder))
+  pub waits : T (waitingOk x)
+  pub counts : x .timer + (x .cycle + one (x .signal) + x .missed) ≤ date
+  pub longest : x .longest ≤ mostTicks
+  pub opened : x .opened ≤ date
+
+module _ (K : Table) (date t : ℕ) (x : Task) where
+  pub task-of : T (fineTask K date t x) → FineTask K date t x
+  task-of w =
+      let timer = and-both (timerOk K t x) _ w in
+      let holder = and-both (holderOk K t (x .holder)) _ (timer .1) in
+      let waits = and-both (waitingOk x) _ (holder .1) in
+      let counts = and-both (countsOk date x) _ (waits .1) in
+      let longest = and-both (longestOk x) _ (counts .1) in
+      record { timer = leb→le _ _ (timer .0); holder = holder .0; waits = waits .0; counts = leb→le _ _ (counts .0); longest = leb→le _ _ (longest .0); opened = leb→le _ _ (longest .1) }
+
+  pub of-task : FineTask K date t x → T (fineTask K date t x)
+  of-task f =
+      and-i (timerOk K t x) _ (le→leb _ _ (f .timer))
+      (and-i (holderOk K t (x .holder)) _ (f .holder)
+      (and-i (waitingOk x) _ (f .waits)
+      (and-i (countsOk date x) _ (le→leb _ _ (f .counts))
+      (and-i (longestOk x) _ (le→leb _ _ (f .longest))
+      (le→leb _ _ (f .opened))))))
+
+-- who holds
+pub held-is : (h : Holder) (a : ℕ) → T (heldBy h a) → h ≡ Activity a
+held-is Manager a t = absurd t
+held-is (Activity b) a t = ap Activity (eqb→eq b a t)
+
+pub manager-is : (h : Holder) → T (byManager h) → h ≡ Manager
+manager-is Manager t = refl
+manager-is (Activity b) t = absurd t
+
+-- where an activity executes: at a codel of its own, within its limit; it holds, and is not in R
+pub record Executing (K : Table) (a : ℕ) (h l : Bool) (p : Place) (k : ℕ) : Type 0 where
+  pub codel : ℕ
+  pub place : p ≡ Codel codel
+  pub inK : codel < K .ncodels
+  pub owner : K .owner codel ≡ a
+  pub inTime : k ≤ K .limit codel
+  pub holds : T h
+  pub notR : T (not l)
+
+pub executing : (K : Table) (a : ℕ) (m h r l : Bool) (p : Place) (e : Bool) (k : ℕ) → Fine K a m h r l p e k → T e → Executing K a h l p k
+executing K a m h r l p false k f t = absurd t
+executing K a m h r l Ether true k f t = absurd (f .still)
+executing K a m h r l (Codel d) true k f t =
+    let w = running h l (f .rests) in
+    record {
+      codel = d;
+      place = refl;
+      inK = ltb→lt _ _ (and-l (ltb d (K .ncodels)) _ (f .own));
+      owner = eqb→eq _ _ (and-r (ltb d (K .ncodels)) _ (f .own));
+      inTime = leb→le _ _ (f .clock);
+      holds = w .0;
+      notR = w .1;
+    }
+  where
+    running : (h l : Bool) → T (restsUnlessRunning K h l (Codel d) true) → T h × T (not l)
+    running true false w = (tt, tt)
+    running true true w = absurd (and-r (mayRest K (Codel d)) _ w)
+    running false l w = absurd (and-r (mayRest K (Codel d)) _ w)
+
+-- the rows of a sound state, and what executes in it
+module _ (K : Table) (s : State) (S : Sound K s) where
+  pub fine-at : (a : ℕ) → a < K .nacts → FineAct K a (taskAt s (K .task a)) (actAt s a)
+  fine-at a h = fine-of K a _ _ _ _ _ _ _ (S .acts a h)
+
+  pub task-at : (t : ℕ) → t < K .ntasks → FineTask K (s .date) t (taskAt s t)
+  task-at t h = task-of K (s .date) t (taskAt s t) (S .tasks t h)
+
+  -- an activity of the task t
+  pub fine-in : (t a : ℕ) → a < K .nacts → K .task a ≡ t → FineAct K a (taskAt s t) (actAt s a)
+  fine-in t a h e = subst (λ u. FineAct K a (taskAt s u) (actAt s a)) e (fine-at a h)
+
+  -- a holder is one of the task's activities
+  pub holder-in : (t a : ℕ) → t < K .ntasks → taskAt s t .holder ≡ Activity a → (a < K .nacts) × (K .task a ≡ t)
+  holder-in t a h e =
+      let w = and-both (ltb a (K .nacts)) _ (subst (λ z. T (holderOk K t z)) e (task-at t h .holder)) in
+      (ltb→lt _ _ (w .0), eqb→eq _ _ (w .1))
+
+  -- an activity that executes
+  pub executing-at : (a : ℕ) → a < K .nacts → T (actAt s a .executing) → Executing K a (holds K s a) (actAt s a .halt) (actAt s a .place) (actAt s a .clock)
+  executing-at a h t = executing K a _ _ _ _ _ _ _ (fine-at a h) t

@@ -1,0 +1,169 @@
+-- Cycles, their verdicts, and the report's rows as values.
+use mathlib.Core.Bool.{Bool, true, false, cond}
+use mathlib.Core.List.{List, [], _∷_}
+use Prim.Native.Nat.{ℕ, zero, suc, _+_, _-_}
+use lib.ListN.{length}
+use lib.Dec.{leb}
+use Rattle.model.specs.Tests.{_or_, one, sum, accepted}
+use Rattle.model.specs.Tables.{Table}
+use Rattle.model.specs.States.{taskAt}
+use Rattle.model.specs.Rules.{refusal, lineRefusal, next}
+use Rattle.model.specs.Logs.{reached, most}
+use Rattle.model.specs.declared.State.{State}
+use Rattle.model.specs.declared.Step.{Step}
+use Rattle.model.specs.declared.Step.the-variants.{Wait, St, Sm, Lm, Ia, Ea, Cx, Fa, Fm}
+use Rattle.model.specs.declared.Line.{Line}
+use Rattle.model.specs.declared.Line.the-variants as line
+
+-- "a `kept` row for each kept cycle as it closes (task, cycle number, open date, close date, missed, longest)"
+pub record KeptRow : Type 0 where
+  pub task : ℕ
+  pub cycle : ℕ
+  pub opened : ℕ
+  pub closed : ℕ
+  pub missed : ℕ
+  pub longest : ℕ
+
+abbrev pub keptRow : State → ℕ → KeptRow
+keptRow s t = record { task = t; cycle = taskAt s t .cycle; opened = taskAt s t .opened; closed = s .date; missed = taskAt s t .missed; longest = taskAt s t .longest }
+
+pub data Verdict : Type 0 where
+  none : Verdict
+  kept : KeptRow → Verdict
+  dropped : Verdict
+
+-- "At `fm` a cycle is kept if close date minus open date is at least the task's keep, or missed is at least 1; else dropped."
+abbrev pub keeps : Table → State → ℕ → Bool
+keeps K s t = leb (K .keep t) (s .date - taskAt s t .opened) or leb 1 (taskAt s t .missed)
+
+-- "No earlier step gives a verdict."
+unfoldable pub verdict : Table → State → Step → Verdict
+verdict K s (Wait d) = none
+verdict K s (St t) = none
+verdict K s (Sm t n r) = none
+verdict K s (Lm t a) = none
+verdict K s (Ia a) = none
+verdict K s (Ea a c) = none
+verdict K s (Cx a) = none
+verdict K s (Fa a p) = none
+verdict K s (Fm t) = cond (keeps K s t) (kept (keptRow s t)) dropped
+
+abbrev pub isFm : Step → Bool
+isFm (Wait d) = false
+isFm (St t) = false
+isFm (Sm t n r) = false
+isFm (Lm t a) = false
+isFm (Ia a) = false
+isFm (Ea a c) = false
+isFm (Cx a) = false
+isFm (Fa a p) = false
+isFm (Fm t) = true
+
+abbrev pub isVerdict : Verdict → Bool
+isVerdict none = false
+isVerdict (kept r) = true
+isVerdict dropped = true
+
+-- "Opened (accepted `sm`)"
+abbrev pub opens : Step → ℕ
+opens (Wait d) = 0
+opens (St t) = 0
+opens (Sm t n r) = 1
+opens (Lm t a) = 0
+opens (Ia a) = 0
+opens (Ea a c) = 0
+opens (Cx a) = 0
+opens (Fa a p) = 0
+opens (Fm t) = 0
+
+unfoldable pub openedIn : List Step → ℕ
+openedIn [] = 0
+openedIn (x ∷ xs) = opens x + openedIn xs
+
+-- the kept cycles as they close, and how many are dropped
+abbrev pub withKept : Verdict → List KeptRow → List KeptRow
+withKept none rs = rs
+withKept (kept r) rs = r ∷ rs
+withKept dropped rs = rs
+
+unfoldable pub keptIn : Table → State → List Step → List KeptRow
+keptIn K s [] = []
+keptIn K s (x ∷ xs) = withKept (verdict K s x) (keptIn K (next K s x) xs)
+
+abbrev pub drops : Verdict → ℕ
+drops none = 0
+drops (kept r) = 0
+drops dropped = 1
+
+unfoldable pub droppedIn : Table → State → List Step → ℕ
+droppedIn K s [] = 0
+droppedIn K s (x ∷ xs) = drops (verdict K s x) + droppedIn K (next K s x) xs
+
+-- "the tasks managing at the end"
+unfoldable pub managing : Table → State → ℕ
+managing K s = sum (K .ntasks) (λ t. one (taskAt s t .managing))
+
+-- "The first refusal ends the judging.": the steps accepted before it, and its number, 0 where there is none
+unfoldable pub stepsOf : Table → State → List Line → List Step
+stepsOf K s [] = []
+stepsOf K s (line.Bad ∷ ls) = []
+stepsOf K s (line.Is x ∷ ls) = cond (accepted (refusal K s x)) (x ∷ stepsOf K (next K s x) ls) []
+
+unfoldable pub stopOn : Table → State → List Line → ℕ
+stopOn K s [] = 0
+stopOn K s (line.Bad ∷ ls) = lineRefusal K s line.Bad
+stopOn K s (line.Is x ∷ ls) = cond (accepted (refusal K s x)) (stopOn K (next K s x) ls) (refusal K s x)
+
+-- the lines that say these steps
+unfoldable pub linesOf : List Step → List Line
+linesOf [] = []
+linesOf (x ∷ xs) = line.Is x ∷ linesOf xs
+
+-- "a `sum` row (accepted steps, date, opened, kept, dropped, managing, most steps other than waits between two neighbouring waits or at
+-- either end of the log, refusal, its line)"
+pub record SumRow : Type 0 where
+  pub steps : ℕ
+  pub date : ℕ
+  pub opened : ℕ
+  pub kept : ℕ
+  pub dropped : ℕ
+  pub managing : ℕ
+  pub most : ℕ
+  pub refusal : ℕ
+  pub line : ℕ
+
+pub record Report : Type 0 where
+  pub kept : List KeptRow
+  pub sum : SumRow
+
+-- "Lines count from the first line of table or log. .. No refusal: 0 and 0."
+abbrev pub lineOf : ℕ → ℕ → ℕ
+lineOf zero n = 0
+lineOf (suc r) n = n + 1
+
+abbrev pub reportOn : Table → State → List Step → ℕ → Report
+reportOn K s xs r = record {
+  kept = keptIn K s xs;
+  sum = record {
+    steps = length xs;
+    date = reached K s xs .date;
+    opened = openedIn xs;
+    kept = length (keptIn K s xs);
+    dropped = droppedIn K s xs;
+    managing = managing K (reached K s xs);
+    most = most 0 xs;
+    refusal = r;
+    line = lineOf r (length xs);
+  };
+}
+
+-- the report on a log, judged from a state
+unfoldable pub report : Table → State → List Line → Report
+report K s ls = reportOn K s (stepsOf K s ls) (stopOn K s ls)
+
+-- "A refused table gives `cycles 1` and a `sum` row of zeros but for the last two numbers."
+abbrev pub refusedReport : ℕ → ℕ → Report
+refusedReport n l = record {
+  kept = [];
+  sum = record { steps = 0; date = 0; opened = 0; kept = 0; dropped = 0; managing = 0; most = 0; refusal = n; line = l };
+}

@@ -1,0 +1,11 @@
+pub mod Tests
+pub mod Limits
+pub mod Tables
+pub mod Rows
+pub mod States
+pub mod Rules
+pub mod Sound
+pub mod Logs
+pub mod Cycles
+pub mod Weight
+pub mod Cases

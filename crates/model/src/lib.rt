@@ -1,0 +1,67 @@
+// The component as document 01 sees it while it runs: the state, and the steps that change it. The rules are in specs/, and what is
+// proved of them in proofs/; there is no code here.
+
+// How many tasks a table may have.
+pub const MOST_TASKS: usize = 16;
+
+// How many activities a table may have.
+pub const MOST_ACTS: usize = 64;
+
+// Where an activity is, or where an edge or a step leads: ether or a codel.
+pub enum Place {
+    Ether,
+    Codel(usize),
+}
+
+// Who holds a task: its manager or one of its activities.
+pub enum Holder {
+    Manager,
+    Activity(usize),
+}
+
+// One task's record.
+pub struct Task {
+    pub timer: u64,
+    pub signal: bool,
+    pub managing: bool,
+    pub holder: Holder,
+    pub cycle: u64,
+    pub opened: u64,
+    pub missed: u64,
+    pub longest: u64,
+}
+
+// One activity's record; `run` says that it is in its task's set N, `halt` that it is in R.
+pub struct Act {
+    pub place: Place,
+    pub executing: bool,
+    pub clock: u64,
+    pub run: bool,
+    pub halt: bool,
+}
+
+// The state of a component; rows past the table's counts are fresh.
+pub struct State {
+    pub date: u64,
+    pub tasks: [Task; MOST_TASKS],
+    pub acts: [Act; MOST_ACTS],
+}
+
+// A step, with the numbers and sets of its log line.
+pub enum Step {
+    Wait(u64),
+    St(usize),
+    Sm(usize, u64, u64),
+    Lm(usize, usize),
+    Ia(usize),
+    Ea(usize, usize),
+    Cx(usize),
+    Fa(usize, Place),
+    Fm(usize),
+}
+
+// What a log line says: a step, or none.
+pub enum Line {
+    Is(Step),
+    Bad,
+}
