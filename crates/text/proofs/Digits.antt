@@ -1,10 +1,11 @@
 -- Digits of a base up to sixteen: a number padded to k digits, and the value of a run of digits, undo each other.
 use Prim.Native.Nat.{ℕ, zero, suc, _+_, _-_, _*_, _/_, _%_, _^_, _≤_, _<_}
-use mathlib.Core.Path.{_≡_, refl, sym, ap, _∙_}
+use mathlib.Core.Path.{_≡_, refl, ap, _∙_}
 use mathlib.Core.List.{List, [], _∷_, _++_}
-use mathlib.Core.Bool.{Bool, true, false}
+use mathlib.Core.Bool.{true}
 use native.Mathlib.Omega.{arith}
-use native.Mathlib.Nat.{pow-suc, pow-succ', one-le-pow, mod-lt, div-add-mod', div-lt-iff-lt-mul, div-div-eq-div-mul, add-mul, mul-assoc, mul-comm, one-mul, zero-mul, pow-zero, div-one, mod-eq-of-lt}
+use native.Mathlib.Nat.{pow-zero, pow-suc, pow-succ', one-mul, zero-mul, add-mul, mul-assoc}
+use native.Mathlib.Nat.{div-one, div-add-mod', div-lt-iff-lt-mul, div-div-eq-div-mul, mod-lt, mod-eq-of-lt}
 use lib.Arith.{digits-div, digits-mod, digits-lt}
 use lib.ListN.{length, getD, length-append, List·getD-append}
 use lib.Seq.{getD-at}
@@ -12,7 +13,6 @@ use lib.Dec.{ltb, eqb}
 use borrow.Author.Tests.{lt-ltb, le-ltb, ne-eqb, ltb-true}
 use Rattle.text.specs.Parts.{free}
 use Rattle.text.specs.Digits.{glyphOf, valueOf, scan, pad}
-use Rattle.text.specs.declared.Number.{Number}
 use Rattle.text.specs.declared.Number.the-variants.{Is, Bad}
 use Rattle.text.proofs.Picks.{order, picked, passed, false-true}
 
@@ -20,20 +20,24 @@ use Rattle.text.proofs.Picks.{order, picked, passed, false-true}
 pub bad-is : {n : ℕ} → Bad ≡ Is n → ⊥
 bad-is e = let z : _≡_ {A = ℕ} 0 1 = cc in omega arith
 
--- the digit of a byte, by where the byte stands
+-- the digit of a byte, by which byte it is
 module _ (b : ℕ) where
+  -- below 0
   pub value-low : b < 48 → valueOf b ≡ 16
   unfolding valueOf
   value-low h = rw (lt-ltb _ _ h)
 
+  -- 0 to 9
   pub value-decimal : 48 ≤ b → b < 58 → valueOf b ≡ b - 48
   unfolding valueOf
   value-decimal h k = rw (le-ltb _ _ h, lt-ltb _ _ k)
 
+  -- between 9 and a
   pub value-between : 58 ≤ b → b < 97 → valueOf b ≡ 16
   unfolding valueOf
   value-between h k = let l : 48 ≤ b = omega arith in rw (le-ltb _ _ l, le-ltb _ _ h, lt-ltb _ _ k)
 
+  -- a to f
   pub value-letter : 97 ≤ b → b < 103 → valueOf b ≡ b - 87
   unfolding valueOf
   value-letter h k =
@@ -41,6 +45,7 @@ module _ (b : ℕ) where
       let m : 58 ≤ b = omega arith in
       rw (le-ltb _ _ l, le-ltb _ _ m, le-ltb _ _ h, lt-ltb _ _ k)
 
+  -- above f
   pub value-high : 103 ≤ b → valueOf b ≡ 16
   unfolding valueOf
   value-high h =
@@ -92,7 +97,8 @@ pad-digit base (suc k) zero n h =
 pad-digit base (suc k) (suc q) n h =
     let e : suc k - 1 - suc q ≡ k - 1 - q = omega arith in
     let l : k - 1 - q < length (pad base k (n / base)) = rw length-pad (omega arith) in
-    rw (e, List·getD-append (pad base k (n / base)) (glyphOf (n % base) ∷ []) 0 _ l, pad-digit base k q (n / base) (omega arith), pow-succ' base q, ← div-div-eq-div-mul n base (base ^ q))
+    rw (e, List·getD-append (pad base k (n / base)) (glyphOf (n % base) ∷ []) 0 _ l)
+    (rw (pow-succ' base q, ← div-div-eq-div-mul n base (base ^ q)) (pad-digit base k q (n / base) (omega arith)))
 
 -- digits after digits
 pub scan-append : (base v x : ℕ) (p q : List ℕ) → scan base v p ≡ Is x → scan base v (p ++ q) ≡ scan base x q
@@ -104,14 +110,11 @@ scan-append base v x (b ∷ bs) q h =
 -- what a run of digits that was read is: its value after v, and the digits of that value
 pub record Run (base v x : ℕ) (s : List ℕ) : Type 0 where
   pub rest : ℕ
-  pub value : x ≡ v * base ^ length s + rest
+  pub total : x ≡ v * base ^ length s + rest
   pub below : rest < base ^ length s
   pub same : pad base (length s) rest ≡ s
 
 module _ (base : ℕ) (pos : 0 < base) (most : base ≤ 16) where
-  power-pos : (k : ℕ) → 0 < base ^ k
-  power-pos k = one-le-pow k base pos
-
   -- digits put before or after: v base ^ (k + 1) is (v base) base ^ k, and (v base ^ k) base
   lift-front : (v k : ℕ) → v * base ^ suc k ≡ v * base * base ^ k
   lift-front v k = rw (pow-succ', mul-assoc)
@@ -129,6 +132,7 @@ module _ (base : ℕ) (pos : 0 < base) (most : base ≤ 16) where
       rw (scan-append base v (v * base ^ k + n / base) (pad base k (n / base)) (glyphOf (n % base) ∷ []) (scan-pad k v (n / base) l), g, lt-ltb _ _ m)
       (ap Is (rw (add-mul (v * base ^ k) (n / base) base) (omega (arith, div-add-mod' n base, lift-back v k))))
 
+  -- a digit put before k others
   pad-head : (k d r : ℕ) → d < base → r < base ^ k → pad base (suc k) (d * base ^ k + r) ≡ glyphOf d ∷ pad base k r
   pad-head zero d r h l =
       let m : r < 1 = rw pow-zero at l in
@@ -136,8 +140,8 @@ module _ (base : ℕ) (pos : 0 < base) (most : base ≤ 16) where
       rw (pow-zero, e, mod-eq-of-lt h)
   pad-head (suc k) d r h l =
       let m : r % base < base = mod-lt r pos in
-      let e : d * base ^ suc k + r ≡ (d * base ^ k + r / base) * base + r % base =
-      rw add-mul (omega (arith, div-add-mod' r base, lift-back d k)) in
+      let q = div-add-mod' r base in
+      let e : d * base ^ suc k + r ≡ (d * base ^ k + r / base) * base + r % base = rw add-mul (omega (arith, lift-back d k)) in
       let j : r / base < base ^ k = div-lt-iff-lt-mul pos .1 (rw pow-suc at l) in
       rw (e, digits-div (d * base ^ k + r / base) m, digits-mod (d * base ^ k + r / base) m, pad-head k d (r / base) h j)
 
@@ -145,7 +149,7 @@ module _ (base : ℕ) (pos : 0 < base) (most : base ≤ 16) where
   pub scan-run : (s : List ℕ) (v x : ℕ) → scan base v s ≡ Is x → Run base v x s
   scan-run [] v x e =
       let q : v ≡ x = cc in
-      record { rest = 0; value = rw pow-zero (omega arith); below = rw pow-zero (omega arith); same = refl }
+      record { rest = 0; total = rw pow-zero (omega arith); below = rw pow-zero (omega arith); same = refl }
   scan-run (b ∷ bs) v x e =
       let t = picked (ltb (valueOf b) base) bad-is e in
       let d : valueOf b < base = ltb-true _ _ (t .0) in
@@ -153,7 +157,7 @@ module _ (base : ℕ) (pos : 0 < base) (most : base ≤ 16) where
       let k = length bs in
       record {
         rest = valueOf b * base ^ k + r .rest;
-        value = omega (arith, r .value, add-mul (v * base) (valueOf b) (base ^ k), lift-front v k);
+        total = omega (arith, r .total, add-mul (v * base) (valueOf b) (base ^ k), lift-front v k);
         below = rw pow-succ' (digits-lt d (r .below));
         same = rw (pad-head k (valueOf b) (r .rest) d (r .below), r .same, glyph-value b (omega arith));
       }
@@ -162,11 +166,11 @@ module _ (base : ℕ) (pos : 0 < base) (most : base ≤ 16) where
   pub scan-below : (s : List ℕ) (v x : ℕ) → scan base v s ≡ Is x → x < (v + 1) * base ^ length s
   scan-below s v x e =
       let r = scan-run s v x e in
-      omega (arith, r .value, r .below, add-mul v 1 (base ^ length s), one-mul (base ^ length s))
+      omega (arith, r .total, r .below, add-mul v 1 (base ^ length s), one-mul (base ^ length s))
 
   -- a run of digits is its value, padded to as many
   pub pad-scan : (s : List ℕ) (x : ℕ) → scan base 0 s ≡ Is x → pad base (length s) x ≡ s
   pad-scan s x e =
       let r = scan-run s 0 x e in
-      let q : x ≡ r .rest = omega (arith, r .value, zero-mul (base ^ length s)) in
+      let q : x ≡ r .rest = omega (arith, r .total, zero-mul (base ^ length s)) in
       rw q (r .same)

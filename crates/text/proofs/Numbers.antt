@@ -1,18 +1,18 @@
 -- Decimal numbers: how wide one is, and that reading and writing one undo each other.
-use Prim.Native.Nat.{ℕ, zero, suc, _+_, _-_, _*_, _/_, _%_, _^_, _≤_, _<_}
-use mathlib.Core.Path.{_≡_, refl, sym, ap, _∙_}
-use mathlib.Core.List.{List, [], _∷_}
-use mathlib.Core.Bool.{true, false}
+use Prim.Native.Nat.{ℕ, zero, suc, _+_, _-_, _/_, _^_, _≤_, _<_}
+use mathlib.Core.Path.{_≡_, sym, ap, _∙_}
+use mathlib.Core.List.{List}
+use mathlib.Core.Bool.{true}
 use native.Mathlib.Omega.{arith}
 use native.Mathlib.Nat.{pow-le-pow-right, one-le-pow, le-div-iff-mul-le, div-lt-iff-lt-mul, mod-eq-of-lt, one-mul, pow-succ', div-eq-of-lt}
 use lib.ListN.{length, getD}
 use lib.Dec.{ltb, eqb}
-use borrow.Author.Tests.{lt-ltb, le-ltb, eq-eqb, ne-eqb, ltb-true, ltb-false, eqb-true, eqb-false}
+use borrow.Author.Tests.{lt-ltb, le-ltb, ne-eqb, ltb-true, ltb-false, eqb-true, eqb-false}
 use Rattle.text.specs.Parts.{free}
 use Rattle.text.specs.Digits.{glyphOf, scan, pad}
 use Rattle.text.specs.Number.{widest, readNumber, widthFrom, widthOf, digits}
-use Rattle.text.specs.declared.Number.the-variants.{Is, Bad}
-use Rattle.text.proofs.Picks.{cases, order, picked, passed}
+use Rattle.text.specs.declared.Number.the-variants.{Is}
+use Rattle.text.proofs.Picks.{cases, order, passed}
 use Rattle.text.proofs.Digits.{bad-is, length-pad, pad-free, pad-digit, scan-pad, scan-below, pad-scan}
 
 ten-le : {i j : ℕ} → i ≤ j → 10 ^ i ≤ 10 ^ j
@@ -72,6 +72,7 @@ pub digits-free : (c n : ℕ) → c < 48 → free c (digits n) ≡ true
 unfolding digits
 digits-free c n h = pad-free c 10 (widthOf n) n h
 
+-- the first of the digits that hold a number
 first-digit : (j n : ℕ) → n < 10 ^ suc j → getD (pad 10 (suc j) n) 0 0 ≡ glyphOf (n / 10 ^ j)
 first-digit j n h =
     let e : suc j - 1 - j ≡ 0 = omega arith in
@@ -85,9 +86,11 @@ zero-glyph d h =
     (λ l. let e : 87 + d ≡ 48 = rw (le-ltb _ _ l) at h in absurd (omega arith))
 
 -- a number of more than one digit does not begin with a zero
-no-zero : (n : ℕ) → widthOf n ≤ widest → 1 < widthOf n → getD (digits n) 0 0 ≡ 48 → ⊥
+no-zero : (n : ℕ) → widthOf n ≤ widest → (widthOf n ≡ 1 → ⊥) → getD (digits n) 0 0 ≡ 48 → ⊥
 unfolding digits
-no-zero n h l z =
+no-zero n h ne z =
+    let w = width-within n in
+    let l : 1 < widthOf n = order 1 (widthOf n) (λ m. m) (λ m. absurd (ne (omega arith))) in
     let j = widthOf n - 1 in
     let e : widthOf n ≡ suc j = omega arith in
     let b : n < 10 ^ suc j = rw e at (width-narrow n h) in
@@ -95,6 +98,14 @@ no-zero n h l z =
     let o : 10 ^ j ≤ n = order n (10 ^ j) (λ m. let k = width-bound n j m (omega arith) in absurd (omega arith)) (λ m. m) in
     let q = le-div-iff-mul-le {k = 10 ^ j} {x = 1} {y = n} (one-le-pow j 10 (omega arith)) .1 (rw one-mul o) in
     omega arith
+
+-- a number of fewer digits does
+zero-first : (n j : ℕ) → j < widest → widthOf n ≤ j → getD (pad 10 (suc j) n) 0 0 ≡ 48
+zero-first n j h l =
+    let p = ten-le {i = widthOf n} {j = j} l in
+    let q = ten-le {i = j} {j = suc j} (omega arith) in
+    let m : n < 10 ^ j = omega (arith, width-narrow n (omega arith)) in
+    first-digit j n (omega arith) ∙ rw (div-eq-of-lt m)
 
 scan-digits : (n : ℕ) → widthOf n ≤ widest → scan 10 0 (digits n) ≡ Is n
 unfolding digits
@@ -109,26 +120,26 @@ read-digits most n h l =
     rw (length-digits n, ne-eqb _ _ some, le-ltb _ _ h, le-ltb _ _ l)
     (cases (eqb (widthOf n) 1)
     (λ e. rw (e, scan-digits n l))
-    (λ e. let k : 1 < widthOf n = let o = eqb-false (widthOf n) 1 e in order 1 (widthOf n) (λ m. m) (λ m. absurd (o (omega arith))) in
-    rw (e, ne-eqb _ _ (no-zero n l k), scan-digits n l)))
+    (λ e. rw (e, ne-eqb _ _ (no-zero n l (eqb-false (widthOf n) 1 e)), scan-digits n l)))
 
--- digits that begin with a zero only where there is but one are the width of their value
-width-read : (s : List ℕ) (n j : ℕ) → scan 10 0 s ≡ Is n → length s ≡ suc j → j < widest → (1 ≤ j → getD s 0 0 ≡ 48 → ⊥) → widthOf n ≡ length s
-width-read s n j u l h big =
+-- digits that begin with a zero only where there is but one are the text of their value
+written : (s : List ℕ) (n j : ℕ) → scan 10 0 s ≡ Is n → length s ≡ suc j → j < widest → (1 ≤ j → getD s 0 0 ≡ 48 → ⊥)
+    → (digits n ≡ s) × (widthOf n ≡ length s)
+unfolding digits
+written s n j u l h big =
     let b : n < 10 ^ suc j = rw (← l) (let x = scan-below 10 (omega arith) (omega arith) s 0 n u in omega arith) in
     let p : pad 10 (suc j) n ≡ s = rw l at (pad-scan 10 (omega arith) (omega arith) s n u) in
     let o = width-bound n (suc j) b (omega arith) in
     let w = width-within n in
+    let e : widthOf n ≡ suc j =
     order (widthOf n) (suc j)
-    (λ k.
-    let m : n < 10 ^ j = let y = ten-le {i = widthOf n} {j = j} (omega arith) in omega (arith, width-narrow n (omega arith)) in
-    let z : getD s 0 0 ≡ 48 = rw (← p) (first-digit j n b ∙ rw (div-eq-of-lt m)) in
-    absurd (big (omega arith) z))
-    (λ k. omega arith)
+    (λ k. absurd (big (omega arith) (rw p at (zero-first n j h (omega arith)))))
+    (λ k. omega arith) in
+    (rw e p, omega arith)
 
 -- a field that is read as a number is the text of that number, which is no wider than asked for
 pub digits-read : (most : ℕ) (s : List ℕ) (n : ℕ) → readNumber most s ≡ Is n → (digits n ≡ s) × (widthOf n ≤ most)
-unfolding readNumber digits
+unfolding readNumber
 digits-read most s n u =
     let a = passed (eqb (length s) 0) bad-is u in
     let b = passed (ltb most (length s)) bad-is (a .1) in
@@ -136,10 +147,8 @@ digits-read most s n u =
     let j = length s - 1 in
     let l : length s ≡ suc j = order 0 (length s) (λ m. omega arith) (λ m. absurd (eqb-false (length s) 0 (a .0) (omega arith))) in
     let k : j < widest = omega (arith, ltb-false widest (length s) (c .0)) in
-    let done : scan 10 0 s ≡ Is n → (1 ≤ j → getD s 0 0 ≡ 48 → ⊥) → (digits n ≡ s) × (widthOf n ≤ most) =
-    λ v big.
-    let w = width-read s n j v l k big in
-    (rw w (pad-scan 10 (omega arith) (omega arith) s n v), omega (arith, ltb-false most (length s) (b .0))) in
+    let r : (digits n ≡ s) × (widthOf n ≡ length s) =
     cases (eqb (length s) 1)
-    (λ e. done (rw e at (c .1)) (λ o. let q = eqb-true (length s) 1 e in absurd (omega arith)))
-    (λ e. let d = passed (eqb (getD s 0 0) 48) bad-is (rw e at (c .1)) in done (d .1) (λ o. eqb-false _ _ (d .0)))
+    (λ e. written s n j (rw e at (c .1)) l k (λ o. let q = eqb-true (length s) 1 e in absurd (omega arith)))
+    (λ e. let d = passed (eqb (getD s 0 0) 48) bad-is (rw e at (c .1)) in written s n j (d .1) l k (λ o. eqb-false _ _ (d .0))) in
+    (r .0, omega (arith, ltb-false most (length s) (b .0), r .1))

@@ -1,12 +1,12 @@
 -- Cutting a text at each byte c and putting it together again; and where its parts stand.
 use Prim.Native.Nat.{ℕ, zero, suc, _+_, _-_, _≤_, _<_}
-use mathlib.Core.Path.{_≡_, refl, sym, ap, _∙_}
+use mathlib.Core.Path.{_≡_, refl}
 use mathlib.Core.List.{List, [], _∷_, _++_}
 use mathlib.Core.Bool.{true, false}
 use native.Mathlib.Omega.{arith}
 use lib.ListN.{length, getD, drop, take, length-drop}
 use lib.Seq.{drop-drop, length-take-le}
-use lib.Dec.{eqb, ltb, leb·suc-suc}
+use lib.Dec.{eqb, leb·suc-suc}
 use borrow.Author.Tests.{eq-eqb, eqb-true, le-ltb, lt-ltb}
 use Rattle.text.specs.Parts.{before, firstAt, splitOn, onHead, joinOn, free, allFree, partsFrom, fieldFrom, fieldAt}
 use Rattle.text.specs.declared.Field.the-variants.{At, Absent}

@@ -26,5 +26,6 @@ pub passed : {A : Type 0} (b : Bool) {x y z : A} → (x ≡ z → ⊥) → pick 
 passed true ne e = absurd (ne e)
 passed false ne e = (refl, e)
 
+-- false is not true
 pub false-true : false ≡ true → ⊥
 false-true e = let z : _≡_ {A = ℕ} 0 1 = cc in omega arith

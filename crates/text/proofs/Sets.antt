@@ -1,8 +1,8 @@
 -- Sets: reading and writing one undo each other, and which digit holds which bit.
-use Prim.Native.Nat.{ℕ, zero, suc, _+_, _-_, _*_, _/_, _%_, _^_, _≤_, _<_}
-use mathlib.Core.Path.{_≡_, refl, sym, ap, _∙_}
-use mathlib.Core.List.{List, [], _∷_}
-use mathlib.Core.Bool.{true, false}
+use Prim.Native.Nat.{ℕ, zero, suc, _+_, _-_, _*_, _/_, _%_, _^_, _<_}
+use mathlib.Core.Path.{_≡_, refl, ap, _∙_}
+use mathlib.Core.List.{List}
+use mathlib.Core.Bool.{true}
 use native.Mathlib.Omega.{arith}
 use native.Mathlib.Nat.{pow-suc, mod-lt, div-add-mod, div-lt-iff-lt-mul}
 use lib.ListN.{length, getD}
@@ -10,7 +10,7 @@ use lib.Dec.{eqb}
 use lib.Pow.{pow-add, shr-shr, mod-mod-pow, field}
 use borrow.Author.Tests.{eq-eqb, eqb-true}
 use Rattle.text.specs.Parts.{free}
-use Rattle.text.specs.Digits.{glyphOf, valueOf, scan, pad}
+use Rattle.text.specs.Digits.{glyphOf, valueOf}
 use Rattle.text.specs.Set.{readSet, setText, bit}
 use Rattle.text.specs.declared.Number.the-variants.{Is}
 use Rattle.text.proofs.Picks.{picked}

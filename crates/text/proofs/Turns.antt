@@ -1,6 +1,6 @@
 -- One law for each turn and each exit of the code: `now` is what the definition says of what is left, `r` what it says of the whole.
 use Prim.Native.Nat.{ℕ, zero, suc, _+_, _-_, _*_, _/_, _%_, _^_, _≤_, _<_}
-use mathlib.Core.Path.{_≡_, refl, sym, ap, _∙_}
+use mathlib.Core.Path.{_≡_, sym, ap, _∙_}
 use mathlib.Core.List.{List, [], _∷_, _++_}
 use mathlib.Core.Bool.{Bool, true, false, not}
 use native.Mathlib.Omega.{arith}
@@ -46,31 +46,37 @@ tens-at m k h = let e : 0 + k ≡ k = omega arith in rw e at (tens-from m 0 k h)
 
 -- is there room?
 module _ (have at many : ℕ) where
+  -- a place past the end has no room
   pub fits-past : have < at → false ≡ leb (at + many) have
   fits-past h = let k : have < at + many = omega arith in rw (lt-leb _ _ k)
 
+  -- else what is left decides
   pub fits-left : at ≤ have → leb many (have - at) ≡ leb (at + many) have
   fits-left h =
       order (have - at) many
       (λ k. let l : have < at + many = omega arith in rw (lt-leb _ _ k, lt-leb _ _ l))
       (λ k. let l : at + many ≤ have = omega arith in rw (le-leb _ _ k, le-leb _ _ l))
 
--- the byte of a digit
+-- the byte of a digit below ten
 pub glyph-decimal : (d : ℕ) → d < 10 → 48 + d ≡ glyphOf d
 glyph-decimal d h = rw (lt-ltb _ _ h)
 
+-- the byte of a digit from ten on
 pub glyph-letter : (d : ℕ) → 10 ≤ d → 87 + d ≡ glyphOf d
 glyph-letter d h = rw (le-ltb _ _ h)
 
 -- the value of a run of digits
 module _ (base v i : ℕ) (s : List ℕ) (r : Number) (now : scan base v (drop i s) ≡ r) where
+  -- at the end the value so far is the value
   pub scan-end : length s ≤ i → Is v ≡ r
   scan-end h = rw (drop-of-length-le s h) at now
 
   module _ (d : ℕ) (e : d ≡ valueOf (getD s i 0)) (h : i < length s) where
+    -- a byte that is no digit of the base is bad form
     pub scan-bad : base ≤ d → Bad ≡ r
     scan-bad l = let k : base ≤ valueOf (getD s i 0) = rw e at l in rw (drop-cons s i 0 h, le-ltb _ _ k) at now
 
+    -- a digit is taken into the value
     pub scan-more : d < base → scan base (v * base + d) (drop (i + 1) s) ≡ r
     scan-more l =
         let k : valueOf (getD s i 0) < base = rw e at l in
@@ -78,18 +84,22 @@ module _ (base v i : ℕ) (s : List ℕ) (r : Number) (now : scan base v (drop i
 
 -- and how large it can be
 module _ (base v i d : ℕ) (b : v < base ^ i) (l : d < base) where
+  -- a digit more gives a value below the next power
   pub scan-room : v * base + d < base ^ (i + 1)
   scan-room = rw (add-one, pow-suc) (digits-lt b l)
 
   module _ (n : ℕ) (h : i < n) (m : base ^ n ≤ 18446744073709551616) where
+    -- so it fits while the last power does
     pub scan-fits : v * base + d < 18446744073709551616
     scan-fits = let k : base ^ (i + 1) ≤ base ^ n = pow-le-pow-right (omega arith) (omega arith) in omega (arith, scan-room)
 
+    -- and so it does before the digit is added
     pub scan-shifts : v * base < 18446744073709551616
     scan-shifts = omega (arith, scan-fits)
 
 -- how many digits a number has
 module _ (n w r : ℕ) (now : widthFrom (20 - w) w n ≡ r) where
+  -- after the last power tried
   pub width-end : 20 ≤ w → w ≡ r
   width-end h = let e : 20 - w ≡ 0 = omega arith in rw e at now
 
@@ -97,17 +107,21 @@ module _ (n w r : ℕ) (now : widthFrom (20 - w) w n ≡ r) where
     fuel : 20 - w ≡ suc (20 - suc w)
     fuel = omega arith
 
+    -- the first power above the number
     pub width-here : n < p → w ≡ r
     width-here l = let k : n < 10 ^ w = rw e at l in rw (fuel, lt-ltb _ _ k) at now
 
+    -- a power that is not above it
     pub width-more : p ≤ n → widthFrom (20 - (w + 1)) (w + 1) n ≡ r
     width-more l = let k : 10 ^ w ≤ n = rw e at l in rw (add-one w) (rw (fuel, le-ltb _ _ k) at now)
 
--- the digits of a number, from the last on
+-- a digit of a base up to sixteen is a digit
 pub digit-small : (base left : ℕ) → 0 < base → base ≤ 16 → left % base < 16
 digit-small base left h l = omega (arith, mod-lt left h)
 
+-- the digits of a number, from the last on
 module _ (buf : List ℕ) (at base j left : ℕ) (r : List ℕ) (now : sets buf at (pad base j left) ≡ r) where
+  -- the last digit is stored, and the others are left
   pub put-turn : (g : ℕ) → g ≡ glyphOf (left % base) → 0 < j → sets (set buf (at + (j - 1)) g) at (pad base (j - 1) (left / base)) ≡ r
   put-turn g e h =
       let p = pad base (j - 1) (left / base) in
@@ -117,110 +131,137 @@ module _ (buf : List ℕ) (at base j left : ℕ) (r : List ℕ) (now : sets buf 
       rw (e, sets-set buf at p (at + (j - 1)) (glyphOf (left % base)) (omega arith))
       (rw (sets-append buf at p (glyphOf (left % base) ∷ []), l) at then)
 
+  -- no digit is left
   pub put-end : j ≤ 0 → buf ≡ r
   put-end h = let e : j ≡ 0 = omega arith in rw e at now
 
 -- a text that does not fit, and one that does
 module _ (buf : List ℕ) (at many : ℕ) (text : List ℕ) (fit : Bool) (e : fit ≡ leb (at + many) (length buf)) (l : length text ≡ many) where
+  -- no room: nothing is written
   pub put-none : not fit ≡ true → Put buf at text at buf
   put-none n = let t = sym e ∙ not-true fit n in record { place = rw (l, t); bytes = rw (l, t) }
 
+  -- room, and the text written
   pub put-whole : not fit ≡ false → (r : ℕ) (after : List ℕ) → r ≡ at + many → after ≡ sets buf at text → Put buf at text r after
   put-whole y r after p q = let t = sym e ∙ not-false fit y in record { place = rw (l, t) p; bytes = rw (l, t) q }
 
+-- and the room that the test found
 module _ (buf : List ℕ) (at many : ℕ) (fit : Bool) (e : fit ≡ leb (at + many) (length buf)) (y : not fit ≡ false) where
+  -- the test that passed
   pub put-room : at + many ≤ length buf
   put-room = leb-true _ _ (sym e ∙ not-false fit y)
 
+  -- the place after the text fits
   pub put-place : length buf < 18446744073709551616 → at + many < 18446744073709551616
   put-place h = omega (arith, put-room)
 
 -- the digits of a number are as many as it is wide
 module _ (n w : ℕ) (e : w ≡ widthOf n) where
+  -- its length is the width that was found
   pub number-length : length (digits n) ≡ w
   number-length = length-digits n ∙ sym e
 
+  -- its digits were written
   pub number-laid : (buf : List ℕ) (at : ℕ) (after : List ℕ) → after ≡ sets buf at (pad 10 w n) → after ≡ sets buf at (digits n)
   unfolding digits
   number-laid buf at after p = rw e at p
 
--- the bytes of a text, one after the other
+-- before the first byte of a text is copied
 pub copy-start : (buf s : List ℕ) (at : ℕ) → sets buf (at + 0) s ≡ sets buf at s
 copy-start buf s at = rw add-zero
 
+-- the bytes of a text, one after the other
 module _ (buf : List ℕ) (at i : ℕ) (s r : List ℕ) (now : sets buf (at + i) (drop i s) ≡ r) where
+  -- a byte is stored
   pub copy-more : i < length s → sets (set buf (at + i) (getD s i 0)) (at + (i + 1)) (drop (i + 1) s) ≡ r
   copy-more h = let e : at + suc i ≡ suc (at + i) = omega arith in rw (add-one i, e) (rw (drop-cons s i 0 h) at now)
 
+  -- no byte is left
   pub copy-end : length s ≤ i → buf ≡ r
   copy-end h = rw (drop-of-length-le s h) at now
 
+-- the place is after the text once every byte is copied
 pub copy-place : (at i : ℕ) (s : List ℕ) → i ≤ length s → length s ≤ i → at + i ≡ at + length s
 copy-place at i s h l = omega arith
 
--- are two lists the same?
+-- lists of two lengths are not the same
 pub same-short : (a b : List ℕ) → (length a ≡ length b → ⊥) → false ≡ sameList a b
 same-short a b h = cases (sameList a b) (λ e. absurd (h (ap length (same-list a b e)))) (λ e. sym e)
 
+-- two lists of one length, byte by byte
 module _ (a b : List ℕ) (i : ℕ) (r : Bool) (now : sameList (drop i a) (drop i b) ≡ r) (l : length a ≡ length b) where
+  -- no byte is left
   pub same-end : length a ≤ i → true ≡ r
   same-end h = let k : length b ≤ i = omega arith in rw (drop-of-length-le a h, drop-of-length-le b k) at now
 
   module _ (h : i < length a) where
+    -- two bytes differ
     pub same-other : (getD a i 0 ≡ getD b i 0 → ⊥) → false ≡ r
     same-other e = let k : i < length b = omega arith in rw (drop-cons a i 0 h, drop-cons b i 0 k, ne-eqb _ _ e) at now
 
+    -- two bytes are equal
     pub same-more : getD a i 0 ≡ getD b i 0 → sameList (drop (i + 1) a) (drop (i + 1) b) ≡ r
     same-more e = let k : i < length b = omega arith in rw (add-one i) (rw (drop-cons a i 0 h, drop-cons b i 0 k, eq-eqb _ _ e) at now)
 
 -- the first c
 module _ (s : List ℕ) (i c r : ℕ) (now : firstAt s i c ≡ r) where
+  -- the end is reached
   pub find-end : length s ≤ i → i ≡ r
   find-end h = let e : i + 0 ≡ r = rw (drop-of-length-le s h) at now in omega arith
 
   module _ (h : i < length s) where
+    -- here it is
     pub find-here : getD s i 0 ≡ c → i ≡ r
     find-here e = let k : i + 0 ≡ r = rw (drop-cons s i 0 h, eq-eqb _ _ e) at now in omega arith
 
+    -- it is not here
     pub find-more : (getD s i 0 ≡ c → ⊥) → firstAt s (i + 1) c ≡ r
     find-more e = rw (add-one i) (let k = rw (drop-cons s i 0 h, ne-eqb _ _ e) at now in omega arith)
 
 -- what a field says as a number
 module _ (most : ℕ) (s : List ℕ) where
+  -- no digit
   pub number-empty : length s ≡ 0 → Bad ≡ readNumber most s
   unfolding readNumber
   number-empty h = rw (eq-eqb _ _ h)
 
   module _ (a : length s ≡ 0 → ⊥) where
+    -- more digits than asked for
     pub number-over : most < length s → Bad ≡ readNumber most s
     unfolding readNumber
     number-over h = rw (ne-eqb _ _ a, lt-ltb _ _ h)
 
     module _ (b : length s ≤ most) where
+      -- more digits than are ever read
       pub number-wide : widest < length s → Bad ≡ readNumber most s
       unfolding readNumber
       number-wide h = rw (ne-eqb _ _ a, le-ltb _ _ b, lt-ltb _ _ h)
 
       module _ (c : length s ≤ widest) where
+        -- one digit
         pub number-one : (r : Number) → r ≡ scan 10 0 s → length s ≡ 1 → r ≡ readNumber most s
         unfolding readNumber
         number-one r e h = rw (ne-eqb _ _ a, le-ltb _ _ b, le-ltb _ _ c, eq-eqb _ _ h) e
 
         module _ (d : length s ≡ 1 → ⊥) where
+          -- a leading zero
           pub number-zero : getD s 0 0 ≡ 48 → Bad ≡ readNumber most s
           unfolding readNumber
           number-zero h = rw (ne-eqb _ _ a, le-ltb _ _ b, le-ltb _ _ c, ne-eqb _ _ d, eq-eqb _ _ h)
 
+          -- several digits
           pub number-more : (r : Number) → r ≡ scan 10 0 s → (getD s 0 0 ≡ 48 → ⊥) → r ≡ readNumber most s
           unfolding readNumber
           number-more r e h = rw (ne-eqb _ _ a, le-ltb _ _ b, le-ltb _ _ c, ne-eqb _ _ d, ne-eqb _ _ h) e
 
 -- what a field says as a set
 module _ (k : ℕ) (s : List ℕ) where
+  -- not as many digits as a set has
   pub set-bad : (length s ≡ k → ⊥) → Bad ≡ readSet k s
   unfolding readSet
   set-bad h = rw (ne-eqb _ _ h)
 
+  -- as many
   pub set-whole : (r : Number) → r ≡ scan 16 0 s → length s ≡ k → r ≡ readSet k s
   unfolding readSet
   set-whole r e h = rw (eq-eqb _ _ h) e
@@ -229,14 +270,18 @@ module _ (k : ℕ) (s : List ℕ) where
 pub power-fits : (base n m : ℕ) → 0 < base → n ≤ m → base ^ m ≤ 18446744073709551616 → base ^ n ≤ 18446744073709551616
 power-fits base n m p h l = let k : base ^ n ≤ base ^ m = pow-le-pow-right p h in omega arith
 
+-- a place and the first c from there
+module _ (s : List ℕ) (at e c : ℕ) (h : at ≤ length s) (f : e ≡ firstAt s at c) where
+  -- it does not stand before that place
+  pub part-starts : at ≤ e
+  part-starts = rw f (firstAt-le c s at h .0)
+
+  -- it stands inside the text, or is the end
+  pub part-ends : e ≤ length s
+  part-ends = rw f (firstAt-le c s at h .1)
+
 -- the next part of a line, from a place to the tab that ends it
 module _ (s : List ℕ) (at e : ℕ) (h : at ≤ length s) (f : e ≡ firstAt s at 9) where
-  pub part-starts : at ≤ e
-  part-starts = rw f (firstAt-le 9 s at h .0)
-
-  pub part-ends : e ≤ length s
-  part-ends = rw f (firstAt-le 9 s at h .1)
-
   cut : partsFrom 9 s at ≡ take (e - at) (drop at s) ∷ partsFrom 9 s (e + 1)
   cut = rw f (parts-cut 9 s at h)
 
@@ -245,42 +290,50 @@ module _ (s : List ℕ) (at e : ℕ) (h : at ≤ length s) (f : e ≡ firstAt s 
 
   -- where a field stands
   module _ (left : ℕ) (r : Field) (now : fieldFrom at (partsFrom 9 s at) left ≡ r) where
+    -- this part is the field
     pub field-here : left ≡ 0 → At at e ≡ r
     field-here z = sym (ap (At at) cut-end) ∙ rw (cut, z) at now
 
     module _ (z : left ≡ 0 → ⊥) where
+      -- the field comes later
       pub field-more : fieldFrom (e + 1) (partsFrom 9 s (e + 1)) (left - 1) ≡ r
       field-more =
           let m : left ≡ suc (left - 1) = order 0 left (λ k. omega arith) (λ k. absurd (z (omega arith))) in
           let v : fieldFrom (at + length (take (e - at) (drop at s)) + 1) (partsFrom 9 s (e + 1)) (left - 1) ≡ r = rw (cut, m) at now in
           rw cut-end at v
 
+      -- no part is left
       pub field-gone : length s ≤ e → Absent ≡ r
       field-gone l = let k : length s < e + 1 = omega arith in rw (parts-none 9 s (e + 1) k) at field-more
 
   -- which word it is
   module _ (k : ℕ) (p : List ℕ) (r : Word) (now : indexFrom k p (partsFrom 9 s at) ≡ r) (t : Bool) (q : t ≡ sameList p (take (e - at) (drop at s))) where
+    -- this part is the word
     pub word-here : t ≡ true → word.Is k ≡ r
     word-here y = let b = sym q ∙ y in rw (cut, b) at now
 
     module _ (n : t ≡ false) where
+      -- the word comes later
       pub word-more : indexFrom (k + 1) p (partsFrom 9 s (e + 1)) ≡ r
       word-more = let b = sym q ∙ n in rw (add-one k) (rw (cut, b) at now)
 
+      -- no part is left
       pub word-gone : length s ≤ e → word.Unknown ≡ r
       word-gone l = let j : length s < e + 1 = omega arith in rw (parts-none 9 s (e + 1) j) at word-more
 
--- and the first
+-- every field is looked for from the first part on
 pub field-start : (s : List ℕ) (i : ℕ) → fieldFrom 0 (partsFrom 9 s 0) i ≡ fieldAt s i
 unfolding fieldAt
 field-start s i = rw (parts-all 9 s)
 
+-- and every word
 pub word-start : (s p : List ℕ) → indexFrom 0 p (partsFrom 9 s 0) ≡ wordIn s p
 unfolding wordIn
 word-start s p = rw (parts-all 9 s)
 
 -- a word of a set, where the field of its number was looked for
 module _ (words : List ℕ) (i : ℕ) (f : Field) (e : f ≡ fieldAt words i) where
+  -- there is none: nothing is written
   pub width-none : f ≡ Absent → 0 ≡ length (wordAt words i)
   width-none u = rw (word-past words i (sym e ∙ u))
 
@@ -291,12 +344,15 @@ module _ (words : List ℕ) (i : ℕ) (f : Field) (e : f ≡ fieldAt words i) wh
     stands : Stands words a z (wordAt words i)
     stands = word-stands words i a z (sym e ∙ u)
 
+    -- it does not end before it starts
     pub word-starts : a ≤ z
     word-starts = stands .starts
 
+    -- it ends inside the set
     pub word-ends : z ≤ length words
     word-ends = stands .ends
 
+    -- its bytes were written
     pub word-whole : (buf : List ℕ) (at r : ℕ) (after : List ℕ) → Put buf at (take (z - a) (drop a words)) r after → Put buf at (wordAt words i) r after
     word-whole buf at r after p = rw (stands .bytes) at p
 

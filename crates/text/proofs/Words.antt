@@ -2,14 +2,14 @@
 use Prim.Native.Nat.{ℕ, zero, suc, _+_, _-_, _≤_, _<_}
 use mathlib.Core.Path.{_≡_, refl, sym, ap, _∙_}
 use mathlib.Core.List.{List, [], _∷_}
-use mathlib.Core.Bool.{Bool, true, false}
+use mathlib.Core.Bool.{true, false}
 use native.Mathlib.Omega.{arith}
 use lib.ListN.{length, getD, List·getD-eq-default}
 use lib.Dec.{eqb}
 use borrow.Author.Tests.{eq-eqb, eqb-true}
 use Rattle.text.specs.Parts.{splitOn, fieldAt}
 use Rattle.text.specs.Words.{sameList, indexFrom, wordIn, wordAt, none, distinct}
-use Rattle.text.specs.declared.Word.the-variants.{Is, Unknown}
+use Rattle.text.specs.declared.Word.the-variants.{Is}
 use Rattle.text.specs.declared.Field.the-variants.{At, Absent}
 use Rattle.text.proofs.Parts.{Stands, field-part, field-absent}
 use Rattle.text.proofs.Picks.{cases, picked, passed, false-true}
@@ -39,17 +39,19 @@ record Found (k i : ℕ) (p : List ℕ) (ws : List (List ℕ)) : Type 0 where
 index-found : (ws : List (List ℕ)) (p : List ℕ) (k i : ℕ) → indexFrom k p ws ≡ Is i → Found k i p ws
 index-found [] p k i u = let z : _≡_ {A = ℕ} 0 1 = cc in absurd (omega arith)
 index-found (w ∷ ws) p k i u =
-    cases (sameList p w)
-    (λ e.
-    let v : Is k ≡ Is i = rw e at u in
-    let j : k ≡ i = cc in
-    let q : i - k ≡ 0 = omega arith in
-    record { from = omega arith; there = rw q (sym (same-list p w e)); inside = omega arith })
-    (λ e.
-    let r = index-found ws p (suc k) i (rw e at u) in
-    let h = r .from in
-    let q : i - k ≡ suc (i - suc k) = omega arith in
-    record { from = omega arith; there = rw q (r .there); inside = omega (arith, r .inside) })
+    cases (sameList p w) (λ e. here e (rw e at u)) (λ e. later (index-found ws p (suc k) i (rw e at u)))
+  where
+    here : sameList p w ≡ true → Is k ≡ Is i → Found k i p (w ∷ ws)
+    here e v =
+        let j : k ≡ i = cc in
+        let q : i - k ≡ 0 = omega arith in
+        record { from = omega arith; there = rw q (sym (same-list p w e)); inside = omega arith }
+
+    later : Found (suc k) i p ws → Found k i p (w ∷ ws)
+    later r =
+        let h = r .from in
+        let q : i - k ≡ suc (i - suc k) = omega arith in
+        record { from = omega arith; there = rw q (r .there); inside = omega (arith, r .inside) }
 
 -- a word that was read is the word of that number, and the set has it
 pub word-read : (words p : List ℕ) (i : ℕ) → wordIn words p ≡ Is i → (wordAt words i ≡ p) × (i < length (splitOn 9 words))
@@ -59,7 +61,7 @@ word-read words p i u =
     let q : i - 0 ≡ i = omega arith in
     (rw q at (r .there), rw q at (r .inside))
 
--- a word that is none of these is not one of them
+-- a word that none of these is like is unlike each of them
 other : (ws : List (List ℕ)) (w : List ℕ) (i : ℕ) → none w ws ≡ true → i < length ws → sameList (getD ws i []) w ≡ false
 other [] w i h l = absurd (omega arith)
 other (v ∷ ws) w zero h l =

@@ -1,8 +1,7 @@
 // Bytes: the numbers, sets, words, lines and fields of which tables, logs and reports are made.
 ghost use mathlib.Core.Path.{_≡_};
-ghost use mathlib.Core.List.{[]};
-ghost use Prim.Native.Nat.{ℕ, _+_, _<_, _≤_, _^_};
-ghost use lib.ListN.{length, getD};
+ghost use Prim.Native.Nat.{_+_, _<_, _≤_, _^_};
+ghost use lib.ListN.{length};
 ghost use lib.Seq.{sets};
 ghost use lib.Dec.{leb};
 ghost use Rattle.text.specs.Parts.{firstAt, fieldAt};
@@ -313,8 +312,8 @@ pub fn put_word(buf: &mut [u8], at: usize, words: &[u8], i: usize) -> usize
 pub fn word_width(words: &[u8], i: usize) -> usize
     ensures { λ r. ⌜ r ≡ length (wordAt (now (words .entry)) i) ⌝ }
 {
-    let Field::At(a, e) = nth_field(words, i) else {
+    let Field::At(from, to) = nth_field(words, i) else {
         return 0;
     };
-    e - a
+    to - from
 }

@@ -15,7 +15,7 @@ returns-3 : tie.Need-returns-3
 returns-3 c = search (number-wide)
 
 read-digits-requires : tie.Need-read-digits-requires
-read-digits-requires c κs = (search needs, power-fits 10 _ 19 (search needs) (search needs) (omega arith))
+read-digits-requires c κs = (search needs, power-fits _ _ 19 (search needs) (search needs) (omega arith))
 
 returns-4 : tie.Need-returns-4
 returns-4 c = search (number-one)
@@ -27,7 +27,7 @@ returns-5 : tie.Need-returns-5
 returns-5 c = search (number-zero)
 
 read-digits-requires-2 : tie.Need-read-digits-requires-2
-read-digits-requires-2 c κs = (search needs, power-fits 10 _ 19 (search needs) (search needs) (omega arith))
+read-digits-requires-2 c κs = (search needs, power-fits _ _ 19 (search needs) (search needs) (omega arith))
 
 returns-6 : tie.Need-returns-6
 returns-6 c = search (number-more)

@@ -9,7 +9,7 @@ returns : tie.Need-returns
 returns c = search (set-bad)
 
 read-digits-requires : tie.Need-read-digits-requires
-read-digits-requires c κs = (search needs, power-fits 16 _ 16 (search needs) (search needs) (omega arith))
+read-digits-requires c κs = (search needs, power-fits _ _ 16 (search needs) (search needs) (omega arith))
 
 returns-2 : tie.Need-returns-2
 returns-2 c = search (set-whole)

@@ -21,7 +21,7 @@ ten-to-requires : tie.Need-ten-to-requires Inv-loop μ-loop
 ten-to-requires c κs = search needs
 
 returns : tie.Need-returns Inv-loop μ-loop
-returns c = search (width-here)
+returns c = width-here _ _ _ (c .before .before .before .loop .inv) _ (c .before .ten-to .ensures) (c .before .before .loop-test .taken) (c .if1 .taken)
 
 add-w : tie.Need-add-w Inv-loop μ-loop
 add-w c = search needs
@@ -30,7 +30,7 @@ loop-less : tie.Need-loop-less Inv-loop μ-loop
 loop-less c = search needs
 
 loop-again : tie.Need-loop-again Inv-loop μ-loop
-loop-again c = search (width-more)
+loop-again c = width-more _ _ _ (c .before .before .before .loop .inv) _ (c .before .ten-to .ensures) (c .before .before .loop-test .taken) (c .if1 .left)
 
 returns-2 : tie.Need-returns-2 Inv-loop μ-loop
 returns-2 c = search (width-end)

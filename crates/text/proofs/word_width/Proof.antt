@@ -7,8 +7,8 @@ use Rattle.text.proofs.word_width.Tie as tie
 nth-field-requires : tie.Need-nth-field-requires
 nth-field-requires c κs = search needs
 
-enum-known-a : tie.Need-enum-known-a
-enum-known-a c = search needs
+enum-known-from : tie.Need-enum-known-from
+enum-known-from c = search needs
 
 enum-told : tie.Need-enum-told
 enum-told c = search needs
@@ -24,4 +24,4 @@ returns-2 c = search (width-whole)
 
 pub word-width-spec : {M : Type 1} → statement M
 word-width-spec =
-    tie.close (tie.spec nth-field-requires enum-known-a enum-told returns sub-result returns-2)
+    tie.close (tie.spec nth-field-requires enum-known-from enum-told returns sub-result returns-2)

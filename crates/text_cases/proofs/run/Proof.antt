@@ -1,16 +1,10 @@
 -- `run` is safe and ends: each line stands within the input, and the next one starts behind it.
-use mathlib.Core.Path.{_≡_}
-use mathlib.Core.List.{List}
-use Prim.Native.Nat.{ℕ, _≤_, _-_}
+use Prim.Native.Nat.{_≤_, _-_}
 use lib.ListN.{length}
 use borrow.Author.Needs.{needs}
-use Rattle.text.specs.Parts.{firstAt}
-use Rattle.text.proofs.Parts.{firstAt-le}
+use Rattle.text.proofs.Turns.{part-ends}
 use Rattle.text_cases.proofs.run.Statement.{statement}
 use Rattle.text_cases.proofs.run.Tie as tie
-
-line-ends : (c : ℕ) (s : List ℕ) (at e : ℕ) → at ≤ length s → e ≡ firstAt s at c → e ≤ length s
-line-ends c s at e h f = rw f (firstAt-le c s at h .1)
 
 abbrev Inv-loop : tie.InvT-loop
 Inv-loop s at₀ at = at ≤ length s
@@ -31,7 +25,7 @@ part-show-start : tie.Need-part-show-start Inv-loop μ-loop
 part-show-start c = search needs
 
 part-show-end : tie.Need-part-show-end Inv-loop μ-loop
-part-show-end c = search (needs, line-ends)
+part-show-end c = search (needs, part-ends)
 
 show-requires : tie.Need-show-requires Inv-loop μ-loop
 show-requires c κs = search needs
