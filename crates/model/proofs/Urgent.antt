@@ -1,5 +1,5 @@
 -- 16 as the page says it: which accepted steps hinder a wait; and the same told by the tasks and their holders of a sound state.
-use mathlib.Core.Bool.{Bool, true, false, not}
+use mathlib.Core.Bool.{Bool, not}
 use mathlib.Core.Path.{_≡_, refl, subst⁻¹}
 use mathlib.Core.Logic.{⊎-elim, _↔_}
 use Prim.Native.Nat.{ℕ, _<_, _%_, _^_}

@@ -75,7 +75,8 @@ pub length-pad : (base k n : ℕ) → length (pad base k n) ≡ k
 length-pad base zero n = refl
 length-pad base (suc k) n = rw (length-append (pad base k (n / base)), length-pad base k (n / base)) (omega arith)
 
-free-append : (c : ℕ) (p q : List ℕ) → free c p ≡ true → free c q ≡ true → free c (p ++ q) ≡ true
+-- two texts without c make one
+pub free-append : (c : ℕ) (p q : List ℕ) → free c p ≡ true → free c q ≡ true → free c (p ++ q) ≡ true
 free-append c [] q h k = k
 free-append c (b ∷ bs) q h k = let t = passed (eqb b c) false-true h in rw (t .0) (free-append c bs q (t .1) k)
 

@@ -152,3 +152,18 @@ digits-read most s n u =
     (λ e. written s n j (rw e at (c .1)) l k (λ o. let q = eqb-true (length s) 1 e in absurd (omega arith)))
     (λ e. let d = passed (eqb (getD s 0 0) 48) bad-is (rw e at (c .1)) in written s n j (d .1) l k (λ o. eqb-false _ _ (d .0))) in
     (r .0, omega (arith, ltb-false most (length s) (b .0), r .1))
+
+-- a number of at most so many digits is below that power of ten
+pub number-below : (most : ℕ) (p : List ℕ) (v : ℕ) → readNumber most p ≡ Is v → v < 10 ^ most
+unfolding readNumber
+number-below most p v u =
+    let a = passed (eqb (length p) 0) bad-is u in
+    let b = passed (ltb most (length p)) bad-is (a .1) in
+    let c = passed (ltb widest (length p)) bad-is (b .1) in
+    let below : scan 10 0 p ≡ Is v → v < 10 ^ most =
+    λ s.
+    let l : 10 ^ length p ≤ 10 ^ most = pow-le-pow-right (omega arith) (ltb-false most (length p) (b .0)) in
+    omega (arith, scan-below 10 (omega arith) (omega arith) p 0 v s) in
+    cases (eqb (length p) 1)
+    (λ e. below (rw e at (c .1)))
+    (λ e. below (passed (eqb (getD p 0 0) 48) bad-is (rw e at (c .1)) .1))

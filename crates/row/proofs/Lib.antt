@@ -1,0 +1,4 @@
+pub mod Tables
+pub mod Fields
+pub mod Rows
+pub mod Turns
