@@ -17,20 +17,23 @@ use Rattle.model.proofs.Tests.{true-T, and-i, and-l, and-r, and-both, e
 -- what the proofs use of a well-formed table
 pub record Formed (K : Table) : Type 0 where
   pub period : (t : ℕ) → t < K .ntasks → 1 ≤ K .period t
+  pub periodHigh : (t : ℕ) → t < K .ntasks → K .period t ≤ mostTicks
+  pub keepHigh : (t : ℕ) → t < K .ntasks → K .keep t ≤ mostTicks
   pub task : (a : ℕ) → a < K .nacts → K .task a < K .ntasks
   pub owner : (c : ℕ) → c < K .ncodels → K .owner c < K .nacts
   pub limitLow : (c : ℕ) → c < K .ncodels → 1 ≤ K .limit c
   pub limitHigh : (c : ℕ) → c < K .ncodels → K .limit c ≤ mostTicks
-  -- both codels of a mutex row exist, and lie in two tasks
+  -- both codels of a mutex row exist, the smaller first, and lie in two tasks
   pub mutex : (m : ℕ) → m < K .nmutex → (K .mutex m .lo < K .ncodels) × (K .mutex m .hi < K .ncodels)
+  pub rising : (m : ℕ) → m < K .nmutex → K .mutex m .lo ≤ K .mutex m .hi
   pub twoTasks : (m : ℕ) → m < K .nmutex → K .task (K .owner (K .mutex m .lo)) ≡ K .task (K .owner (K .mutex m .hi)) → ⊥
   -- an edge leads to ether or to a codel of the same activity, and every codel has one
   pub stays : (c : ℕ) (p : Place) (z : Bool) → T (hasEdge K c p z) → T (atOwn K (K .owner c) p)
   pub leaves : (c : ℕ) → c < K .ncodels → (p : Place) × (z : Bool) × T (hasEdge K c p z)
   -- every activity has a start
   pub starts : (a : ℕ) → a < K .nacts → (c : ℕ) × (c < K .ncodels) × T (isStart K a c)
-  -- the rows fit into a state
-  pub fits : (K .ntasks ≤ mostTasks) × (K .nacts ≤ mostActs)
+  -- no kind has more rows than there may be
+  pub fits : (K .ntasks ≤ mostTasks) × (K .nacts ≤ mostActs) × (K .ncodels ≤ mostCodels) × (K .nedges ≤ mostEdges) × (K .nmutex ≤ mostMutexes)
 
 same-place : (p q : Place) → T (samePlace p q) → p ≡ q
 same-place Ether Ether t = refl
@@ -110,30 +113,30 @@ module _ (K : Table) (wf : T (wellformed K)) where
       (ltb→lt _ _ (f3 .0), ltb→lt _ _ (need-of (ltb (K .task a) (K .ntasks)) 4 0 tt (f3 .1) .0))
 
   -- a codel's row
-  codel-fine : (c : ℕ) → c < K .ncodels → T (inRange (K .limit c)) × (K .owner c < K .nacts)
+  codel-fine : (c : ℕ) → c < K .ncodels → T (inRange (K .limit c)) × (K .owner c < K .nacts) × (c < mostCodels)
   codel-fine c h =
       let f2 = need-of (after c (λ d. leb (K .owner d) (K .owner c))) 2 _ tt (eqb→eq _ _ (rows .codel c h)) in
       let f3 = need-of (ltb c mostCodels and inRange (K .limit c)) 3 _ tt (f2 .1) in
-      (and-r (ltb c mostCodels) _ (f3 .0), ltb→lt _ _ (need-of (ltb (K .owner c) (K .nacts)) 4 _ tt (f3 .1) .0))
+      (and-r (ltb c mostCodels) _ (f3 .0), ltb→lt _ _ (need-of (ltb (K .owner c) (K .nacts)) 4 _ tt (f3 .1) .0), ltb→lt _ _ (and-l (ltb c mostCodels) _ (f3 .0)))
 
   -- an edge's row
-  edge-fine : (e : ℕ) → e < K .nedges → T (known K (K .edge e .target)) × T (targetOk K (K .edge e .source) (K .edge e .target) (K .edge e .pause))
+  edge-fine : (e : ℕ) → e < K .nedges → T (known K (K .edge e .target)) × T (targetOk K (K .edge e .source) (K .edge e .target) (K .edge e .pause)) × (e < mostEdges)
   edge-fine e h =
       let r = K .edge e in
       let f2 = need-of (after e (λ f. edgeBelow (K .edge f) (r .source) (r .target))) 2 _ tt (eqb→eq _ _ (rows .edge e h)) in
       let f3 = need-of (ltb e mostEdges) 3 _ tt (f2 .1) in
       let f4 = need-of (ltb (r .source) (K .ncodels) and known K (r .target)) 4 _ tt (f3 .1) in
-      (and-r (ltb (r .source) (K .ncodels)) _ (f4 .0), need-of (targetOk K (r .source) (r .target) (r .pause)) 5 0 tt (f4 .1) .0)
+      (and-r (ltb (r .source) (K .ncodels)) _ (f4 .0), need-of (targetOk K (r .source) (r .target) (r .pause)) 5 0 tt (f4 .1) .0, ltb→lt _ _ (f3 .0))
 
   -- a mutex row
-  mutex-fine : (m : ℕ) → m < K .nmutex → T (ltb (K .mutex m .lo) (K .ncodels) and ltb (K .mutex m .hi) (K .ncodels)) × T (spansTwo K (K .mutex m .lo) (K .mutex m .hi))
+  mutex-fine : (m : ℕ) → m < K .nmutex → T (ltb (K .mutex m .lo) (K .ncodels) and ltb (K .mutex m .hi) (K .ncodels)) × T (spansTwo K (K .mutex m .lo) (K .mutex m .hi)) × (m < mostMutexes) × (K .mutex m .lo ≤ K .mutex m .hi)
   mutex-fine m h =
       let lo = K .mutex m .lo in
       let hi = K .mutex m .hi in
       let f2 = need-of (leb lo hi and after m (λ n. mutexBelow (K .mutex n) lo hi)) 2 _ tt (eqb→eq _ _ (rows .mutex m h)) in
       let f3 = need-of (ltb m mostMutexes) 3 _ tt (f2 .1) in
       let f4 = need-of (ltb lo (K .ncodels) and ltb hi (K .ncodels)) 4 _ tt (f3 .1) in
-      (f4 .0, need-of (spansTwo K lo hi) 5 0 tt (f4 .1) .0)
+      (f4 .0, need-of (spansTwo K lo hi) 5 0 tt (f4 .1) .0, ltb→lt _ _ (f3 .0), leb→le _ _ (and-l (leb lo hi) _ (f2 .0)))
 
   own-target : (c : ℕ) (p : Place) (z : Bool) → T (known K p) → T (targetOk K c p z) → T (atOwn K (K .owner c) p)
   own-target c Ether z k u = tt
@@ -158,14 +161,17 @@ module _ (K : Table) (wf : T (wellformed K)) where
   pub formed : Formed K
   formed = record {
     period = λ t h. leb→le 1 _ (and-l (leb 1 (K .period t)) _ (and-l (inRange (K .period t)) _ (and-r (ltb t mostTasks) _ (task-fine t h))));
+    periodHigh = λ t h. leb→le _ _ (and-r (leb 1 (K .period t)) _ (and-l (inRange (K .period t)) _ (and-r (ltb t mostTasks) _ (task-fine t h))));
+    keepHigh = λ t h. leb→le _ _ (and-r (leb 1 (K .keep t)) _ (and-r (inRange (K .period t)) _ (and-r (ltb t mostTasks) _ (task-fine t h))));
     task = λ a h. act-fine a h .1;
     owner = λ c h. codel-fine c h .1;
     limitLow = λ c h. leb→le 1 _ (and-l (leb 1 (K .limit c)) _ (codel-fine c h .0));
     limitHigh = λ c h. leb→le _ _ (and-r (leb 1 (K .limit c)) _ (codel-fine c h .0));
     mutex = λ m h. let f = mutex-fine m h .0 in (ltb→lt _ _ (and-l (ltb (K .mutex m .lo) (K .ncodels)) _ f), ltb→lt _ _ (and-r (ltb (K .mutex m .lo) (K .ncodels)) _ f));
+    rising = λ m h. mutex-fine m h .3;
     twoTasks = λ m h e. T-not (eqb (K .task (K .owner (K .mutex m .lo))) (K .task (K .owner (K .mutex m .hi)))) (mutex-fine m h .1) (true-T _ (eq-eqb _ _ e));
     stays = stays;
     leaves = leave;
     starts = λ a h. some-at (isStart K a) (K .ncodels) (each-at (hasStart K) (K .nacts) (and-l (each (K .nacts) (hasStart K)) _ last) a h);
-    fits = (rows-fit (K .ntasks) mostTasks (λ t h. ltb→lt _ _ (and-l (ltb t mostTasks) _ (task-fine t h))), rows-fit (K .nacts) mostActs (λ a h. act-fine a h .0));
+    fits = (rows-fit (K .ntasks) mostTasks (λ t h. ltb→lt _ _ (and-l (ltb t mostTasks) _ (task-fine t h))), rows-fit (K .nacts) mostActs (λ a h. act-fine a h .0), rows-fit (K .ncodels) mostCodels (λ c h. codel-fine c h .2), rows-fit (K .nedges) mostEdges (λ e h. edge-fine e h .2), rows-fit (K .nmutex) mostMutexes (λ m h. mutex-fine m h .2));
   }

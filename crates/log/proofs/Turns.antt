@@ -1,0 +1,179 @@
+-- One law for each exit of the code, over what its calls ensure.
+use Prim.Native.Nat.{ℕ, _+_, _-_, _≤_, _<_}
+use mathlib.Core.Path.{_≡_, sym, _∙_}
+use mathlib.Core.List.{List}
+use mathlib.Core.Bool.{Bool, true, false}
+use native.Mathlib.Omega.{arith}
+use lib.ListN.{length, take, drop, length-drop}
+use lib.Seq.{take-all, length-take-le}
+use lib.Dec.{leb}
+use borrow.Author.Tests.{lt-ltb, le-ltb, le-leb, lt-leb, leb-false, eq-eqb, ne-eqb}
+use Rattle.text.specs.Parts.{pick, firstAt, partsFrom}
+use Rattle.text.specs.Words.{sameList, wordIn}
+use Rattle.text.specs.declared.Number.{Number}
+use Rattle.text.specs.declared.Number.the-variants as number
+use Rattle.text.specs.declared.Word.{Word}
+use Rattle.text.specs.declared.Word.the-variants as word
+use Rattle.text.proofs.Picks.{order, passed}
+use Rattle.text.proofs.Parts.{firstAt-le, parts-cut, parts-none, parts-all}
+use Rattle.model.specs.declared.Place.{Place}
+use Rattle.model.specs.declared.Step.the-variants.{Lm, Ea, Fa}
+use Rattle.model.specs.declared.Line.{Line}
+use Rattle.model.specs.declared.Line.the-variants.{Is, Bad}
+use Rattle.log.specs.Lines.{etherValue, etherWord, stepWords, aNumber, aSet, byForm, only, headed, gotAt, headOf, given, placeOf, oneNumber, oneOf, twoNumbers, twoOf, managerLine, leavingLine, stepOf, onWord, readStep, readLine}
+use Rattle.log.specs.declared.Got.{Got}
+use Rattle.log.specs.declared.Got.the-variants as got
+use Rattle.log.proofs.Forms.{told, tabless, only-whole}
+
+-- a field by its form
+module _ (form : ℕ) (p : List ℕ) where
+  pub form-number : (n : Number) → form ≡ 0 → n ≡ aNumber p → n ≡ byForm form p
+  form-number n h e = rw (eq-eqb _ _ h) e
+
+  module _ (a : form ≡ 0 → ⊥) where
+    pub form-set : (n : Number) → form ≡ 1 → n ≡ aSet p → n ≡ byForm form p
+    form-set n h e = rw (ne-eqb _ _ a, eq-eqb _ _ h) e
+
+    module _ (b : form ≡ 1 → ⊥) (t : Bool) (q : t ≡ sameList p etherWord) where
+      pub form-ether : t ≡ true → number.Is etherValue ≡ byForm form p
+      form-ether u = rw (ne-eqb _ _ a, ne-eqb _ _ b, ← q, u)
+
+      pub form-codel : t ≡ false → (n : Number) → n ≡ aNumber p → n ≡ byForm form p
+      form-codel u n e = rw (ne-eqb _ _ a, ne-eqb _ _ b, ← q, u) e
+
+-- the field behind the tab at a place: where it is the only one
+module _ (form : ℕ) (s : List ℕ) (at : ℕ) where
+  pub only-gone : length s ≤ at → number.Bad ≡ only (byForm form) (partsFrom 9 s (at + 1))
+  only-gone h = let k : length s < at + 1 = omega arith in rw (parts-none 9 s (at + 1) k)
+
+  pub only-rest : (n : Number) → n ≡ byForm form (take (length s - (at + 1)) (drop (at + 1) s)) → at < length s → n ≡ only (byForm form) (partsFrom 9 s (at + 1))
+  only-rest n e h =
+      let k : at + 1 ≤ length s = omega arith in
+      let l : length (drop (at + 1) s) ≤ length s - (at + 1) = omega (arith, length-drop (at + 1) s) in
+      rw (le-ltb _ _ k) (rw (take-all _ _ l) at e ∙ sym (only-whole (byForm form) (tabless form) (drop (at + 1) s)))
+
+  -- where others may follow
+  pub head-gone : length s ≤ at → got.Bad ≡ headOf (byForm form) s at
+  head-gone h = rw (le-leb _ _ h)
+
+  module _ (h : at < length s) (e : ℕ) (f : e ≡ firstAt s (at + 1) 9) where
+    pub head-ends : e ≤ length s
+    head-ends = rw f (firstAt-le 9 s (at + 1) (omega arith) .1)
+
+    module _ (n : Number) (q : n ≡ byForm form (take (e - (at + 1)) (drop (at + 1) s))) where
+      pub head-bad : n ≡ number.Bad → got.Bad ≡ headOf (byForm form) s at
+      head-bad u = rw (lt-leb _ _ h, ← f, ← q, u)
+
+      pub head-is : (v : ℕ) → n ≡ number.Is v → got.Is v e ≡ headOf (byForm form) s at
+      head-is v u = rw (lt-leb _ _ h, ← f, ← q, u)
+
+-- a field that was found ends within the line
+pub got-ends : (s : List ℕ) (at v p : ℕ) (n : Number) (g : Got) → g ≡ pick (leb (length s) at) got.Bad (gotAt n (firstAt s (at + 1) 9)) → g ≡ got.Is v p → p ≤ length s
+got-ends s at v p n g e u =
+    let t = passed (leb (length s) at) none (sym e ∙ u) in
+    told n
+    (λ w q. let m : got.Is w (firstAt s (at + 1) 9) ≡ got.Is v p = rw q at (t .1) in
+    let l : firstAt s (at + 1) 9 ≡ p = cc in
+    omega (arith, firstAt-le 9 s (at + 1) (omega (arith, leb-false (length s) at (t .0))) .1))
+    (λ q. absurd (none (rw q at (t .1))))
+  where
+    none : got.Bad ≡ got.Is v p → ⊥
+    none z = let y : _≡_ {A = ℕ} 0 1 = cc in omega arith
+
+-- what a line says by its first field and the others
+abbrev onGot : List ℕ → Got → (ℕ → List (List ℕ) → Line) → Line
+onGot s (got.Is v p) go = go v (partsFrom 9 s (p + 1))
+onGot s got.Bad go = Bad
+
+headed-got : (form : List ℕ → Number) (s : List ℕ) (at : ℕ) (go : ℕ → List (List ℕ) → Line) → headed form (partsFrom 9 s (at + 1)) go ≡ onGot s (headOf form s at) go
+headed-got form s at go =
+    order at (length s)
+    (λ k.
+    let l : at + 1 ≤ length s = omega arith in
+    rw (parts-cut 9 s (at + 1) l, lt-leb _ _ k)
+    (told (form (take (firstAt s (at + 1) 9 - (at + 1)) (drop (at + 1) s))) (λ v u. rw u) (λ u. rw u)))
+    (λ k. let l : length s < at + 1 = omega arith in rw (parts-none 9 s (at + 1) l, le-leb _ _ k))
+
+module _ (form : List ℕ → Number) (s : List ℕ) (at : ℕ) (g : Got) (e : g ≡ headOf form s at) where
+  pub headed-bad : g ≡ got.Bad → (go : ℕ → List (List ℕ) → Line) → Bad ≡ headed form (partsFrom 9 s (at + 1)) go
+  headed-bad u go = rw (headed-got form s at go, ← e, u)
+
+  pub headed-is : (v p : ℕ) → g ≡ got.Is v p → (r : Line) (go : ℕ → List (List ℕ) → Line) → r ≡ go v (partsFrom 9 s (p + 1)) → r ≡ headed form (partsFrom 9 s (at + 1)) go
+  headed-is v p u r go q = rw (headed-got form s at go, ← e, u) q
+
+-- what it says by its last
+module _ (n w : Number) (e : n ≡ w) where
+  pub given-bad : n ≡ number.Bad → (go : ℕ → Line) → Bad ≡ given w go
+  given-bad u go = rw (← e, u)
+
+  pub given-is : (v : ℕ) → n ≡ number.Is v → (r : Line) (go : ℕ → Line) → r ≡ go v → r ≡ given w go
+  given-is v u r go q = rw (← e, u) q
+
+-- the steps of two numbers, and of a place
+module _ (k a b : ℕ) where
+  pub two-lm : k ≡ 3 → Is (Lm a b) ≡ Is (twoOf k a b)
+  two-lm h = rw (eq-eqb _ _ h)
+
+  pub two-ea : (k ≡ 3 → ⊥) → Is (Ea a b) ≡ Is (twoOf k a b)
+  two-ea h = rw (ne-eqb _ _ h)
+
+pub leaving : (a c : ℕ) (p : Place) → p ≡ placeOf c → Is (Fa a p) ≡ Is (Fa a (placeOf c))
+leaving a c p e = rw e
+
+-- the step of a word
+module _ (k : ℕ) (ps : List (List ℕ)) (r : Line) where
+  pub word-sm : k ≡ 2 → r ≡ managerLine ps → r ≡ stepOf k ps
+  word-sm h e = rw (eq-eqb _ _ h) e
+
+  module _ (a : k ≡ 2 → ⊥) where
+    pub word-lm : k ≡ 3 → r ≡ twoNumbers ps (twoOf k) → r ≡ stepOf k ps
+    word-lm h e = rw (ne-eqb _ _ a, eq-eqb _ _ h) (rw (eq-eqb _ _ h) at e)
+
+    module _ (b : k ≡ 3 → ⊥) where
+      pub word-ea : k ≡ 5 → r ≡ twoNumbers ps (twoOf k) → r ≡ stepOf k ps
+      word-ea h e = rw (ne-eqb _ _ a, ne-eqb _ _ b, eq-eqb _ _ h) (rw (ne-eqb _ _ b) at e)
+
+      module _ (c : k ≡ 5 → ⊥) where
+        pub word-fa : k ≡ 7 → r ≡ leavingLine ps → r ≡ stepOf k ps
+        word-fa h e = rw (ne-eqb _ _ a, ne-eqb _ _ b, ne-eqb _ _ c, eq-eqb _ _ h) e
+
+        pub word-one : (k ≡ 7 → ⊥) → r ≡ oneNumber ps (oneOf k) → r ≡ stepOf k ps
+        word-one h e = rw (ne-eqb _ _ a, ne-eqb _ _ b, ne-eqb _ _ c, ne-eqb _ _ h) e
+
+-- what a text's first c cuts off
+module _ (s : List ℕ) (e c : ℕ) (f : e ≡ firstAt s 0 c) where
+  pub first-ends : e ≤ length s
+  first-ends = rw f (firstAt-le c s 0 (omega arith) .1)
+
+  pub first-long : e ≡ length (take e s)
+  first-long = sym (length-take-le e s first-ends)
+
+-- a line without its newline
+module _ (s : List ℕ) where
+  pub step-long : 63 ≤ length s → Bad ≡ readStep s
+  unfolding readStep
+  step-long h = let k : 63 < length s + 1 = omega arith in rw (lt-ltb _ _ k)
+
+  module _ (h : length s < 63) (e : ℕ) (f : e ≡ firstAt s 0 9) (w : Word) (q : w ≡ wordIn stepWords (take e s)) where
+    step-on : readStep s ≡ onWord w (partsFrom 9 s (e + 1))
+    unfolding readStep
+    step-on =
+        let k : length s + 1 ≤ 63 = omega arith in
+        let z : firstAt s 0 9 - 0 ≡ firstAt s 0 9 = omega arith in
+        rw (le-ltb _ _ k, ← parts-all 9 s, parts-cut 9 s 0 (omega arith), z, q, f)
+
+    pub step-none : w ≡ word.Unknown → Bad ≡ readStep s
+    step-none u = sym (rw u at step-on)
+
+    pub step-is : (k : ℕ) → w ≡ word.Is k → (r : Line) → r ≡ stepOf k (partsFrom 9 s (e + 1)) → r ≡ readStep s
+    step-is k u r p = rw (step-on, u) p
+
+-- a line with it
+module _ (s : List ℕ) (e : ℕ) (f : e ≡ firstAt s 0 10) where
+  pub line-none : (e + 1 ≡ length s → ⊥) → Bad ≡ readLine s
+  unfolding readLine
+  line-none h = rw (← f, ne-eqb _ _ h)
+
+  pub line-one : e + 1 ≡ length s → (r : Line) → r ≡ readStep (take e s) → r ≡ readLine s
+  unfolding readLine
+  line-one h r p = let m : length s - 1 ≡ e = omega arith in rw (← f, eq-eqb _ _ h, m) p

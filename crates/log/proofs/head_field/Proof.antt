@@ -1,0 +1,54 @@
+-- `head_field` meets its contract.
+use borrow.Author.Needs.{needs}
+use Rattle.log.proofs.Turns.{head-gone, head-ends, head-bad, head-is}
+use Rattle.log.proofs.head_field.Statement.{statement}
+use Rattle.log.proofs.head_field.Tie as tie
+
+returns : tie.Need-returns
+returns c = search (head-gone)
+
+add-a : tie.Need-add-a
+add-a c = search needs
+
+next-byte-requires : tie.Need-next-byte-requires
+next-byte-requires c κs = search needs
+
+sub-read-form : tie.Need-sub-read-form
+sub-read-form c = search needs
+
+part-read-form-start : tie.Need-part-read-form-start
+part-read-form-start c = search needs
+
+part-read-form-end : tie.Need-part-read-form-end
+part-read-form-end c = search (needs, head-ends)
+
+read-form-requires : tie.Need-read-form-requires
+read-form-requires c κs = search needs
+
+enum-known-v : tie.Need-enum-known-v
+enum-known-v c = search needs
+
+enum-told : tie.Need-enum-told
+enum-told c = search needs
+
+returns-2 : tie.Need-returns-2
+returns-2 c = search (head-bad)
+
+returns-3 : tie.Need-returns-3
+returns-3 c = search (head-is)
+
+pub head-field-spec : {M : Type 1} → statement M
+head-field-spec =
+    tie.close
+    (tie.spec
+    returns
+    add-a
+    next-byte-requires
+    sub-read-form
+    part-read-form-start
+    part-read-form-end
+    read-form-requires
+    enum-known-v
+    enum-told
+    returns-2
+    returns-3)

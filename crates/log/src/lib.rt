@@ -1,0 +1,258 @@
+// A log's lines: each read as a step.
+ghost use mathlib.Core.Path.{_≡_};
+ghost use mathlib.Core.List.{[], _∷_};
+ghost use Prim.Native.Nat.{_+_, _≤_};
+ghost use lib.ListN.{length};
+ghost use Rattle.text.specs.Parts.{partsFrom};
+ghost use Rattle.text.specs.Words.{wordIn};
+ghost use Rattle.log.specs.Lines.{stepWords, byForm, placeOf, only, oneOf, twoOf, headOf, twoNumbers, managerLine, leavingLine, readStep, readLine};
+use model::Line;
+use model::Place;
+use model::Step;
+use text::Number;
+use text::Word;
+
+// The longest line, with its newline.
+pub const LONGEST_LINE: usize = 63;
+
+// How many digits a number has at most.
+const MOST_DIGITS: usize = 10;
+
+// `ether` where a codel may stand.
+const ETHER: u64 = 10000000000;
+
+// The codes of a field's forms: a number, a set, a place.
+const DECIMAL: u8 = 0;
+
+const HEX: u8 = 1;
+
+const TARGET: u8 = 2;
+
+// A field's value and where it ends, or bad form.
+enum Got {
+    Is(u64, usize),
+    Bad,
+}
+
+// The step word of two letters.
+fn two_letters(x: u8, y: u8) -> Word
+    ensures { λ r. ⌜ r ≡ wordIn stepWords (x ∷ y ∷ []) ⌝ }
+{
+    if x == b's' {
+        if y == b't' {
+            return Word::Is(1);
+        }
+        if y == b'm' {
+            return Word::Is(2);
+        }
+        return Word::Unknown;
+    }
+    if x == b'l' {
+        if y == b'm' {
+            return Word::Is(3);
+        }
+        return Word::Unknown;
+    }
+    if x == b'i' {
+        if y == b'a' {
+            return Word::Is(4);
+        }
+        return Word::Unknown;
+    }
+    if x == b'e' {
+        if y == b'a' {
+            return Word::Is(5);
+        }
+        return Word::Unknown;
+    }
+    if x == b'c' {
+        if y == b'x' {
+            return Word::Is(6);
+        }
+        return Word::Unknown;
+    }
+    if x == b'f' {
+        if y == b'a' {
+            return Word::Is(7);
+        }
+        if y == b'm' {
+            return Word::Is(8);
+        }
+        return Word::Unknown;
+    }
+    Word::Unknown
+}
+
+// Which step word a field is.
+fn step_word(w: &[u8]) -> Word
+    ensures { λ r. ⌜ r ≡ wordIn stepWords (now (w .entry)) ⌝ }
+{
+    if w.len() == 2 {
+        return two_letters(w[0], w[1]);
+    }
+    if text::same(w, b"wait") {
+        return Word::Is(0);
+    }
+    Word::Unknown
+}
+
+// What a field says, read by the code of its form.
+fn read_form(p: &[u8], form: u8) -> Number
+    ensures { λ r. ⌜ r ≡ byForm form (now (p .entry)) ⌝ }
+{
+    if form == DECIMAL {
+        return text::read_number(p, MOST_DIGITS);
+    }
+    if form == HEX {
+        return text::read_set(p);
+    }
+    if text::same(p, b"ether") {
+        return Number::Is(ETHER);
+    }
+    text::read_number(p, MOST_DIGITS)
+}
+
+// What the only field behind the tab at a place says.
+fn only_field(line: &[u8], at: usize, form: u8) -> Number
+    requires { ⌜ at ≤ length (now line) ⌝ }
+    ensures { λ r. ⌜ r ≡ only (byForm form) (partsFrom 9 (now (line .entry)) (at + 1)) ⌝ }
+{
+    if line.len() <= at {
+        return Number::Bad;
+    }
+    let a = at + 1;
+    read_form(&line[a..], form)
+}
+
+// What the field behind the tab at a place says, and where it ends.
+fn head_field(line: &[u8], at: usize, form: u8) -> Got
+    requires { ⌜ at ≤ length (now line) ⌝ }
+    ensures { λ r. ⌜ r ≡ headOf (byForm form) (now (line .entry)) at ⌝ }
+{
+    if line.len() <= at {
+        return Got::Bad;
+    }
+    let a = at + 1;
+    let e = text::next_byte(line, a, text::TAB);
+    let Number::Is(v) = read_form(&line[a..e], form) else {
+        return Got::Bad;
+    };
+    Got::Is(v, e)
+}
+
+// The step of a word that takes one number.
+fn with_one(k: usize, a: u64) -> Step
+    ensures { λ r. ⌜ r ≡ oneOf k a ⌝ }
+{
+    if k == 0 {
+        return Step::Wait(a);
+    }
+    if k == 1 {
+        return Step::St(a as usize);
+    }
+    if k == 4 {
+        return Step::Ia(a as usize);
+    }
+    if k == 6 {
+        return Step::Cx(a as usize);
+    }
+    Step::Fm(a as usize)
+}
+
+// `sm` task N R, behind its word.
+fn read_manager(line: &[u8], at: usize) -> Line
+    requires { ⌜ at ≤ length (now line) ⌝ }
+    ensures { λ r. ⌜ r ≡ managerLine (partsFrom 9 (now (line .entry)) (at + 1)) ⌝ }
+{
+    let Got::Is(t, p) = head_field(line, at, DECIMAL) else {
+        return Line::Bad;
+    };
+    let Got::Is(n, q) = head_field(line, p, HEX) else {
+        return Line::Bad;
+    };
+    let Number::Is(r) = only_field(line, q, HEX) else {
+        return Line::Bad;
+    };
+    Line::Is(Step::Sm(t as usize, n, r))
+}
+
+// A codel's number or ether.
+fn place_of(v: u64) -> Place
+    ensures { λ r. ⌜ r ≡ placeOf v ⌝ }
+{
+    if v == ETHER {
+        return Place::Ether;
+    }
+    Place::Codel(v as usize)
+}
+
+// `fa` A target, behind its word.
+fn read_leaving(line: &[u8], at: usize) -> Line
+    requires { ⌜ at ≤ length (now line) ⌝ }
+    ensures { λ r. ⌜ r ≡ leavingLine (partsFrom 9 (now (line .entry)) (at + 1)) ⌝ }
+{
+    let Got::Is(a, p) = head_field(line, at, DECIMAL) else {
+        return Line::Bad;
+    };
+    let Number::Is(c) = only_field(line, p, TARGET) else {
+        return Line::Bad;
+    };
+    Line::Is(Step::Fa(a as usize, place_of(c)))
+}
+
+// `lm` task A and `ea` A c, behind their words.
+fn read_two(line: &[u8], at: usize, k: usize) -> Line
+    requires { ⌜ at ≤ length (now line) ⌝ }
+    ensures { λ r. ⌜ r ≡ twoNumbers (partsFrom 9 (now (line .entry)) (at + 1)) (twoOf k) ⌝ }
+{
+    let Got::Is(a, p) = head_field(line, at, DECIMAL) else {
+        return Line::Bad;
+    };
+    let Number::Is(b) = only_field(line, p, DECIMAL) else {
+        return Line::Bad;
+    };
+    if k == 3 {
+        return Line::Is(Step::Lm(a as usize, b as usize));
+    }
+    Line::Is(Step::Ea(a as usize, b as usize))
+}
+
+// What a line says, without its newline.
+pub fn read_step(line: &[u8]) -> Line
+    ensures { λ r. ⌜ r ≡ readStep (now (line .entry)) ⌝ }
+{
+    if LONGEST_LINE <= line.len() {
+        return Line::Bad;
+    }
+    let w = text::next_byte(line, 0, text::TAB);
+    let Word::Is(k) = step_word(&line[..w]) else {
+        return Line::Bad;
+    };
+    if k == 2 {
+        return read_manager(line, w);
+    }
+    if k == 3 {
+        return read_two(line, w, k);
+    }
+    if k == 5 {
+        return read_two(line, w, k);
+    }
+    if k == 7 {
+        return read_leaving(line, w);
+    }
+    let Number::Is(a) = only_field(line, w, DECIMAL) else {
+        return Line::Bad;
+    };
+    Line::Is(with_one(k, a))
+}
+
+// What the bytes of one line say, its newline with them.
+pub fn read_line(s: &[u8]) -> Line
+    ensures { λ r. ⌜ r ≡ readLine (now (s .entry)) ⌝ }
+{
+    let e = text::next_byte(s, 0, text::NEWLINE);
+    if e + 1 != s.len() {
+        return Line::Bad;
+    }
+    read_step(&s[..e])
+}
