@@ -1,0 +1,15 @@
+pub mod Tests
+pub mod Fields
+pub mod Faults
+pub mod Accepted
+pub mod Stored
+pub mod RowsOf
+pub mod Marks
+pub mod Built
+pub mod Lines
+pub mod Widths
+pub mod Grown
+pub mod WellFormed
+pub mod Trips
+pub mod Turns
+pub mod TableTurns

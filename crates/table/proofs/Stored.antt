@@ -1,0 +1,127 @@
+-- What is stored of an accepted row is what it says, and nothing else changes.
+use Prim.Native.Nat.{ℕ, zero, suc, _+_, _≤_, _<_}
+use mathlib.Core.Path.{_≡_, refl, ap, _∙_}
+use mathlib.Core.List.{List, [], _∷_}
+use native.Mathlib.Omega.{arith}
+use lib.ListN.{length, getD, set, length-set, length-replicate, getD-replicate}
+use lib.Seq.{sets, getD-set-same, getD-set-other, length-sets}
+use lib.Dec.{ltb, leb, eqb}
+use borrow.Author.Tests.{lt-ltb, ltb-true, leb-true, eqb-true, eqb-false}
+use Rattle.text.proofs.Picks.{cases, order}
+use Rattle.model.specs.Tests.{_implies_, each}
+use Rattle.row.specs.Kinds.{mostOf, formOf}
+use Rattle.row.specs.declared.Row.{Row}
+use Rattle.table.specs.Tables.{slots, emptyTable, baseOf, slotOf, narrowed, shown, fieldOf, rowOf, addRow}
+use Rattle.table.specs.declared.Table.{Table}
+use Rattle.table.proofs.Tests.{each-at}
+use Rattle.table.proofs.Fields.{three, valueAt, kept}
+use Rattle.table.proofs.Accepted.{Sized, Follows, accepted}
+
+-- a run of stores leaves every other place
+sets-other : (vs l : List ℕ) (i k : ℕ) → ((j : ℕ) → j < length vs → k ≡ i + j → ⊥) → getD (sets l i vs) k 0 ≡ getD l k 0
+sets-other [] l i k h = refl
+sets-other (v ∷ vs) l i k h =
+    sets-other vs (set l i v) (suc i) k (λ j b e. h (suc j) (omega arith) (omega arith))
+    ∙ getD-set-other l i k v 0 (λ e. h 0 (omega arith) (omega arith))
+
+-- and each value stands in its place
+sets-same : (vs l : List ℕ) (i j : ℕ) → j < length vs → i + length vs ≤ length l → getD (sets l i vs) (i + j) 0 ≡ getD vs j 0
+sets-same [] l i j h b = absurd (omega arith)
+sets-same (v ∷ vs) l i zero h b =
+    let e : i + 0 ≡ i = omega arith in
+    rw e (sets-other vs (set l i v) (suc i) i (λ j k q. omega arith) ∙ getD-set-same l i v 0 (omega arith))
+sets-same (v ∷ vs) l i (suc j) h b =
+    let e : i + suc j ≡ suc i + j = omega arith in
+    rw e (sets-same vs (set l i v) (suc i) j (omega arith) (omega (arith, length-set l i v)))
+
+-- each kind has its own stretch of the rows
+stretch : (k : ℕ) → k < 5 → baseOf k + mostOf k ≤ 1360
+unfolding baseOf mostOf each
+stretch k h = leb-true _ _ (each-at 5 (λ i. leb (baseOf i + mostOf i) 1360) refl k h)
+
+stretches : (k m : ℕ) → k < m → m < 5 → baseOf k + mostOf k ≤ baseOf m
+unfolding baseOf mostOf each
+stretches k m l h =
+    leb-true _ _
+    (rw (lt-ltb _ _ l) at (each-at 5 (λ i. ltb i m implies leb (baseOf i + mostOf i) (baseOf m))
+    (each-at 5 (λ j. each 5 (λ i. ltb i j implies leb (baseOf i + mostOf i) (baseOf j))) refl m h) k (omega arith)))
+
+apart : (k i m n : ℕ) → k < 5 → m < 5 → i < mostOf k → n < mostOf m → (k ≡ m → i ≡ n → ⊥) → baseOf k + i ≡ baseOf m + n → ⊥
+apart k i m n h l a b ne e =
+    order k m
+    (λ c. omega (arith, stretches k m c l))
+    (λ c. order m k
+    (λ d. omega (arith, stretches m k d h))
+    (λ d. let q : k ≡ m = omega arith in ne q (omega (arith, ap baseOf q))))
+
+-- the empty table is one that is being built
+pub empty-sized : Sized emptyTable
+empty-sized =
+    record {
+      size = length-replicate {A = ℕ} slots 0;
+      counted = record { kinds = refl; most = λ k h. rw (getD-replicate {A = ℕ} 5 k 0 0 h) (omega arith) };
+    }
+
+-- how many rows of its kind stand before it
+abbrev pub placeOf : Table → Row → ℕ
+placeOf t r = getD (t .counts) (r .kind) 0
+
+-- the numbers of a row as they are stored
+abbrev numbers : Row → List ℕ
+numbers r = narrowed (r .a) ∷ narrowed (r .b) ∷ narrowed (r .c) ∷ []
+
+-- an accepted row, stored behind the rows of t
+module _ {t : Table} {r : Row} (f : Follows t r) where
+  stored-field : (j : ℕ) → j < 3 → fieldOf (addRow t r .rows) (r .kind) (placeOf t r) j ≡ valueAt r j
+  unfolding fieldOf addRow
+  stored-field j h =
+      let c = accepted f .room in
+      let b = stretch (r .kind) (f .worded .kind) in
+      rw (lt-ltb _ _ c, sets-same (numbers r) (t .rows) (slotOf (r .kind) (placeOf t r)) j h (omega (arith, f .sized .size)))
+      (three (λ i. shown (formOf (r .kind) i) (getD (numbers r) i 0) ≡ valueAt r i)
+      (keep 0 (omega arith)) (keep 1 (omega arith)) (keep 2 (omega arith)) j h)
+    where
+      keep : (i : ℕ) → i < 3 → shown (formOf (r .kind) i) (narrowed (valueAt r i)) ≡ valueAt r i
+      keep i l = kept (r .kind) (f .worded .kind) i l (valueAt r i) (accepted f .limited i l)
+
+  -- what is stored of the row is what it says
+  pub stored : rowOf (addRow t r .rows) (r .kind) (placeOf t r) ≡ r
+  stored = rw (stored-field 0 (omega arith), stored-field 1 (omega arith), stored-field 2 (omega arith))
+
+  other-field : (k i j : ℕ) → k < 5 → j < 3 → (k ≡ r .kind → i ≡ placeOf t r → ⊥) → fieldOf (addRow t r .rows) k i j ≡ fieldOf (t .rows) k i j
+  unfolding fieldOf addRow
+  other-field k i j h l ne =
+      cases (ltb i (mostOf k))
+      (λ e.
+      let a = apart k i (r .kind) (placeOf t r) h (f .worded .kind) (ltb-true _ _ e) (accepted f .room) ne in
+      rw (e, sets-other (numbers r) (t .rows) (slotOf (r .kind) (placeOf t r)) (slotOf k i + j) (λ m b q. a (omega arith))))
+      (λ e. rw e)
+
+  -- no other row changes
+  pub others : (k i : ℕ) → k < 5 → (k ≡ r .kind → i ≡ placeOf t r → ⊥) → rowOf (addRow t r .rows) k i ≡ rowOf (t .rows) k i
+  others k i h ne = rw (other-field k i 0 h (omega arith) ne, other-field k i 1 h (omega arith) ne, other-field k i 2 h (omega arith) ne)
+
+  -- there is one row more of its kind
+  pub count-same : getD (addRow t r .counts) (r .kind) 0 ≡ placeOf t r + 1
+  unfolding addRow
+  count-same = getD-set-same (t .counts) (r .kind) (placeOf t r + 1) 0 (omega (arith, f .sized .counted .kinds, f .worded .kind))
+
+  -- and of no other
+  pub count-other : (k : ℕ) → (k ≡ r .kind → ⊥) → getD (addRow t r .counts) k 0 ≡ getD (t .counts) k 0
+  unfolding addRow
+  count-other k ne = getD-set-other (t .counts) (r .kind) k (placeOf t r + 1) 0 ne
+
+  -- the table is still being built
+  pub added-sized : Sized (addRow t r)
+  unfolding addRow
+  added-sized =
+      record {
+        size = length-sets (t .rows) (slotOf (r .kind) (placeOf t r)) (numbers r) ∙ f .sized .size;
+        counted = record {
+          kinds = length-set (t .counts) (r .kind) (placeOf t r + 1) ∙ f .sized .counted .kinds;
+          most = λ k h.
+              cases (eqb k (r .kind))
+              (λ e. rw (eqb-true k (r .kind) e) (omega (arith, count-same, accepted f .room)))
+              (λ e. rw (count-other k (eqb-false k (r .kind) e)) (f .sized .counted .most k h));
+        };
+      }

@@ -1,0 +1,222 @@
+-- A table that is accepted row by row is well formed as a whole: what was accepted behind the rows before it stays so beside all others.
+use Prim.Native.Nat.{ℕ, zero, suc, _≤_, _<_}
+use mathlib.Core.Path.{_≡_, refl, ap, _∙_}
+use mathlib.Core.List.{List}
+use mathlib.Core.Bool.{Bool, true, not}
+use native.Mathlib.Omega.{arith}
+use lib.ListN.{getD, getD-replicate}
+use lib.Dec.{ltb, leb, eqb}
+use borrow.Author.Tests.{lt-ltb, ltb-true, eq-eqb, eqb-true, eqb-false}
+use Rattle.text.specs.Parts.{pick}
+use Rattle.text.proofs.Picks.{cases, order}
+use Rattle.row.specs.declared.Row.{Row}
+use Rattle.model.specs.Tests.{_and_, each, after, accepted}
+use Rattle.model.specs.Tables.{EdgeRow, MutexRow, known, isKind}
+use Rattle.model.specs.Tables as model
+use Rattle.model.specs.Rows.{taskFault, actFault, codelFault, edgeFault, mutexFault, edgeBelow, mutexBelow, targetOk}
+use Rattle.model.specs.Rows.{hasAct, hasStart, leaves, lastFault, wellformed}
+use Rattle.model.specs.declared.Place.{Place}
+use Rattle.model.specs.declared.Place.the-variants.{Ether, Codel}
+use Rattle.table.specs.Tables.{emptyTable, fieldOf, rowOf, addRow, targetOf, tableOf}
+use Rattle.table.specs.Checks.{kindFault, rowFault, inPlace, rowsOf, checkTable}
+use Rattle.table.specs.declared.Table.{Table}
+use Rattle.table.specs.declared.Answer.the-variants.{Fine}
+use Rattle.table.proofs.Tests.{needed, each-all, each-same, some-same}
+use Rattle.table.proofs.Fields.{by-kind}
+use Rattle.table.proofs.Faults.{act-passes, codel-passes, edge-passes, mutex-passes}
+use Rattle.table.proofs.Accepted.{Follows}
+use Rattle.table.proofs.Stored.{placeOf, stored, count-same, count-other}
+use Rattle.table.proofs.RowsOf.{someRow}
+use Rattle.table.proofs.Grown.{Grown, grown-added, same-counts, same-grown}
+use Rattle.table.proofs.Built.{Built, done, more, built-all, table-whole, fine-accepts}
+
+-- the refusal of a row behind the first n rows of its kind
+faultAt : model.Table → ℕ → Row → ℕ
+faultAt K n r =
+    pick (eqb (r .kind) 0) (taskFault n (r .a) (r .b))
+    (pick (eqb (r .kind) 1) (actFault K n (r .a))
+    (pick (eqb (r .kind) 2) (codelFault K n (r .a) (r .b) (r .c))
+    (pick (eqb (r .kind) 3) (edgeFault K n (r .a) (targetOf (r .b)) (eqb (r .c) 1))
+    (mutexFault K n (r .a) (r .b)))))
+
+-- each row of a table is accepted behind those before it
+RowsFine : Table → Type 0
+RowsFine t = (k i : ℕ) → k < 5 → i < getD (t .counts) k 0 → faultAt (tableOf t) i (rowOf (t .rows) k i) ≡ 0
+
+-- an edge and a mutex as the rules see them
+abbrev edgeOf : Row → EdgeRow
+edgeOf r = record { source = r .a; target = targetOf (r .b); pause = eqb (r .c) 1 }
+
+abbrev mutexOf : Row → MutexRow
+mutexOf r = record { lo = r .a; hi = r .b }
+
+-- what the rules see of the rows that are in both tables
+module _ (t u : Table) (g : Grown t u) where
+  first-kept : (k i : ℕ) → k < 5 → i < getD (t .counts) k 0 → fieldOf (u .rows) k i 0 ≡ fieldOf (t .rows) k i 0
+  first-kept k i h l = ap (λ (r : Row). r .a) (g .rows k i h l)
+
+  second-kept : (k i : ℕ) → k < 5 → i < getD (t .counts) k 0 → fieldOf (u .rows) k i 1 ≡ fieldOf (t .rows) k i 1
+  second-kept k i h l = ap (λ (r : Row). r .b) (g .rows k i h l)
+
+  -- a test of the row before
+  order-kept : (k : ℕ) → k < 5 → (n : ℕ) → n ≤ getD (t .counts) k 0 → (q : Row → Bool)
+      → after n (λ i. q (rowOf (u .rows) k i)) ≡ after n (λ i. q (rowOf (t .rows) k i))
+  order-kept k h zero l q = refl
+  order-kept k h (suc n) l q = ap q (g .rows k n h (omega arith))
+
+  -- a number that names a row still names it
+  named : (k v : ℕ) → k < 5 → ltb v (getD (t .counts) k 0) ≡ true → ltb v (getD (u .counts) k 0) ≡ true
+  named k v h e = let l = ltb-true v (getD (t .counts) k 0) e in lt-ltb v (getD (u .counts) k 0) (omega (arith, g .counts k h))
+
+  known-kept : (p : Place) → known (tableOf t) p ≡ true → known (tableOf u) p ≡ true
+  unfolding tableOf
+  known-kept Ether e = refl
+  known-kept (Codel c) e = named 2 c (omega arith) e
+
+  stays-kept : (c : ℕ) (p : Place) (pause : Bool) → ltb c (tableOf t .ncodels) ≡ true → known (tableOf t) p ≡ true
+      → targetOk (tableOf u) c p pause ≡ targetOk (tableOf t) c p pause
+  unfolding tableOf
+  stays-kept c Ether pause h l = refl
+  stays-kept c (Codel d) pause h l =
+      let m = ltb-true d (getD (t .counts) 2 0) l in
+      rw (first-kept 2 c (omega arith) (ltb-true _ _ h), first-kept 2 d (omega arith) m, second-kept 2 d (omega arith) m)
+
+  -- a row that was accepted behind the first n rows of its kind stays so
+  module _ (owned : (i : ℕ) → i < getD (t .counts) 2 0 → tableOf t .owner i < getD (t .counts) 1 0) (n : ℕ) where
+    abbrev Stays : Row → Type 0
+    Stays r = n ≤ getD (t .counts) (r .kind) 0 → faultAt (tableOf t) n r ≡ 0 → faultAt (tableOf u) n r ≡ 0
+
+    stays : (r : Row) → r .kind < 5 → Stays r
+    unfolding faultAt tableOf
+    stays =
+        by-kind Stays
+        (λ a b c h f. f)
+        (λ a b c h f.
+        let p = act-passes (tableOf t) n a f in
+        rw (order-kept 1 (omega arith) n h (λ r. leb (r .a) a), p .order, p .room, named 0 a (omega arith) (p .names)))
+        (λ a b c h f.
+        let p = codel-passes (tableOf t) n a b c f in
+        rw (
+          order-kept 2 (omega arith) n h (λ r. leb (r .a) a),
+          p .order,
+          p .room,
+          p .limit,
+          named 1 a (omega arith) (p .names),
+          each-same (λ i. not (isKind (tableOf u) a b i)) (λ i. not (isKind (tableOf t) a b i)) n
+              (λ i l. ap (λ (r : Row). not (eqb (r .a) a and eqb (r .b) b)) (g .rows 2 i (omega arith) (omega arith))),
+          p .alone,
+        ))
+        (λ a b c h f.
+        let p = edge-passes (tableOf t) n a (targetOf b) (eqb c 1) f in
+        rw (
+          order-kept 3 (omega arith) n h (λ r. edgeBelow (edgeOf r) a (targetOf b)),
+          p .order,
+          p .room,
+          named 2 a (omega arith) (p .source),
+          known-kept (targetOf b) (p .target),
+          stays-kept a (targetOf b) (eqb c 1) (p .source) (p .target),
+          p .stays,
+        ))
+        (λ a b c h f.
+        let p = mutex-passes (tableOf t) n a b f in
+        let x = ltb-true a (getD (t .counts) 2 0) (p .lower) in
+        let y = ltb-true b (getD (t .counts) 2 0) (p .higher) in
+        rw (
+          p .first,
+          order-kept 4 (omega arith) n h (λ r. mutexBelow (mutexOf r) a b),
+          p .order,
+          p .room,
+          named 2 a (omega arith) (p .lower),
+          named 2 b (omega arith) (p .higher),
+          first-kept 2 a (omega arith) x,
+          first-kept 2 b (omega arith) y,
+          first-kept 1 (tableOf t .owner a) (omega arith) (owned a x),
+          first-kept 1 (tableOf t .owner b) (omega arith) (owned b y),
+          p .spans,
+        ))
+
+-- the own refusal of a row is that behind all rows of its kind
+own-fault : (t : Table) (r : Row) → r .kind < 5 → kindFault (tableOf t) r ≡ faultAt (tableOf t) (placeOf t r) r
+unfolding kindFault faultAt tableOf
+own-fault t =
+    by-kind (λ r. kindFault (tableOf t) r ≡ faultAt (tableOf t) (placeOf t r) r)
+    (λ a b c. refl) (λ a b c. refl) (λ a b c. refl) (λ a b c. refl) (λ a b c. refl)
+
+-- where each row is accepted, each codel's activity is there
+fine-owned : (t : Table) → RowsFine t → (i : ℕ) → i < getD (t .counts) 2 0 → tableOf t .owner i < getD (t .counts) 1 0
+unfolding RowsFine faultAt tableOf
+fine-owned t s i h =
+    let r = rowOf (t .rows) 2 i in
+    ltb-true _ _ (codel-passes (tableOf t) i (r .a) (r .b) (r .c) (s 2 i (omega arith) h) .names)
+
+-- its rows are accepted in a table that grew from it
+fine-grown : (t u : Table) → Grown t u → RowsFine t → (k i : ℕ) → k < 5 → i < getD (t .counts) k 0
+    → faultAt (tableOf u) i (rowOf (u .rows) k i) ≡ 0
+unfolding RowsFine
+fine-grown t u g s k i h l = rw (g .rows k i h l) (stays t u g (fine-owned t s) i (rowOf (t .rows) k i) h (omega arith) (s k i h l))
+
+-- and so is a row that is added
+fine-added : {t : Table} {r : Row} → Follows t r → RowsFine t → RowsFine (addRow t r)
+unfolding RowsFine rowFault
+fine-added {t} {r} f o k i h l =
+    let g = grown-added f in
+    order i (getD (t .counts) k 0)
+    (λ m. fine-grown t (addRow t r) g o k i h m)
+    (λ m.
+    let q : k ≡ r .kind =
+    cases (eqb k (r .kind)) (λ e. eqb-true _ _ e) (λ e. absurd (omega (arith, count-other f k (eqb-false k (r .kind) e)))) in
+    let c = ap (λ (j : ℕ). getD (t .counts) j 0) q in
+    let d = ap (λ (j : ℕ). getD (addRow t r .counts) j 0) q in
+    let p : i ≡ placeOf t r = omega (arith, count-same f) in
+    let own = rw (own-fault t r (f .worded .kind)) at (needed (inPlace (t .counts) (r .kind)) 1 (f .fine) .1) in
+    rw (q, p, stored f) (stays t (addRow t r) g (fine-owned t o) (placeOf t r) r (f .worded .kind) (omega arith) own))
+
+fine-built : {t u : Table} {rs : List Row} → Built t rs u → RowsFine t → RowsFine u
+fine-built done o = o
+fine-built (more f b) o = fine-built b (fine-added f o)
+
+fine-empty : RowsFine emptyTable
+unfolding RowsFine
+fine-empty k i h l = absurd (omega (arith, getD-replicate {A = ℕ} 5 k 0 0 h))
+
+-- tables with the same rows: what holds of the one holds of the other
+module _ (t u : Table) (e : rowsOf t ≡ rowsOf u) where
+  fine-same : RowsFine t → RowsFine u
+  unfolding RowsFine
+  fine-same s k i h l = fine-grown t u (same-grown t u e) s k i h (omega (arith, same-counts t u e k h))
+
+  some-row : (k : ℕ) → k < 5 → (q : Row → Bool) → someRow u k q ≡ someRow t k q
+  some-row k h q =
+      let rows = same-grown t u e .rows k in
+      rw (← same-counts t u e k h)
+      (some-same (λ i. q (rowOf (u .rows) k i)) (λ i. q (rowOf (t .rows) k i)) (getD (t .counts) k 0) (λ i l. ap q (rows i h l)))
+
+  last-same : lastFault (tableOf u) ≡ lastFault (tableOf t)
+  unfolding lastFault tableOf
+  last-same =
+      rw (
+        each-same (hasAct (tableOf u)) (hasAct (tableOf t)) (tableOf u .ntasks) (λ x l. some-row 1 (omega arith) (λ r. eqb (r .a) x)),
+        each-same (hasStart (tableOf u)) (hasStart (tableOf t)) (tableOf u .nacts)
+            (λ x l. some-row 2 (omega arith) (λ r. eqb (r .a) x and eqb (r .b) 0)),
+        each-same (leaves (tableOf u)) (leaves (tableOf t)) (tableOf u .ncodels) (λ x l. some-row 3 (omega arith) (λ r. eqb (r .a) x)),
+        ← same-counts t u e 0 (omega arith),
+        ← same-counts t u e 1 (omega arith),
+        ← same-counts t u e 2 (omega arith),
+      )
+
+-- each kind of a table whose every row is accepted
+fines : (t : Table) → RowsFine t → (k : ℕ) → k < 5
+    → each (getD (t .counts) k 0) (λ i. accepted (faultAt (tableOf t) i (rowOf (t .rows) k i))) ≡ true
+unfolding RowsFine
+fines t s k h =
+    each-all (getD (t .counts) k 0) (λ i. accepted (faultAt (tableOf t) i (rowOf (t .rows) k i))) (λ i l. eq-eqb _ 0 (s k i h l))
+
+-- an accepted table is well formed
+pub accepted-wellformed : (t : Table) → checkTable t .answer ≡ Fine → wellformed (tableOf t) ≡ true
+unfolding wellformed faultAt tableOf
+accepted-wellformed t e =
+    let w = table-whole t (checkTable t .table) (fine-accepts (checkTable t) e) in
+    let same = built-all (w .built) in
+    let s : RowsFine t = fine-same (checkTable t .table) t same (fine-built (w .built) fine-empty) in
+    let l : lastFault (tableOf t) ≡ 0 = last-same (checkTable t .table) t same ∙ w .last in
+    rw (fines t s 0 (omega arith), fines t s 1 (omega arith), fines t s 2 (omega arith), fines t s 3 (omega arith), fines t s 4 (omega arith), l)

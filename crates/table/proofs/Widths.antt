@@ -1,0 +1,139 @@
+-- How long a table's text can be: so much a row by its kind, and there are only so many rows.
+use Prim.Native.Nat.{ℕ, zero, suc, _+_, _*_, _^_, _≤_, _<_}
+use mathlib.Core.Path.{_≡_, refl}
+use mathlib.Core.List.{List, [], _∷_}
+use mathlib.Core.Bool.{true, false}
+use native.Mathlib.Omega.{arith}
+use lib.ListN.{length, getD, length-append}
+use lib.Dec.{leb, eqb}
+use borrow.Author.Tests.{leb-true, ne-eqb}
+use Rattle.text.specs.Parts.{pick}
+use Rattle.text.specs.Number.{digits}
+use Rattle.text.specs.Words.{wordAt}
+use Rattle.text.proofs.Numbers.{width-bound, length-digits}
+use Rattle.text.proofs.Picks.{order}
+use Rattle.row.specs.Kinds.{rowWords, kindWords, modeWords, etherWord, fieldsOf, mostOf, formOf, aTarget}
+use Rattle.row.specs.Row.{etherValue, rowLine, rowText}
+use Rattle.row.specs.declared.Row.{Row}
+use Rattle.model.specs.Tests.{each, sum}
+use Rattle.table.specs.Tables.{totalOf, addRow}
+use Rattle.table.specs.Checks.{rowsOf, checkTable}
+use Rattle.table.specs.Texts.{longest, endRow, textOf, tableText}
+use Rattle.table.specs.declared.Table.{Table}
+use Rattle.table.specs.declared.Answer.the-variants.{Fine}
+use Rattle.table.proofs.Tests.{each-at}
+use Rattle.table.proofs.Fields.{by-kind, limitOf, within, by-limit, below-limit, Limited}
+use Rattle.table.proofs.Accepted.{Sized, Follows, accepted}
+use Rattle.table.proofs.Stored.{empty-sized, count-same, count-other}
+use Rattle.table.proofs.RowsOf.{rows-count}
+use Rattle.table.proofs.Built.{Built, done, more, built-sized, built-all, table-whole, accepts, fine-accepts}
+
+-- the most bytes of a row, its newline among them
+unfoldable wideOf : ℕ → ℕ
+wideOf k = getD (27 ∷ 7 ∷ 26 ∷ 21 ∷ 14 ∷ []) k 0
+
+digits-short : (v w : ℕ) → v < 10 ^ w → 1 ≤ w → length (digits v) ≤ w
+digits-short v w h l = rw (length-digits v) (width-bound v w h l)
+
+-- a number within its limit, a word, a target
+number-short : (k j v w : ℕ) → eqb (formOf k j) aTarget ≡ false → limitOf k j ≤ 10 ^ w → 1 ≤ w → within k j v ≡ true → length (digits v) ≤ w
+number-short k j v w n b l h = let m = below-limit k j v n h in digits-short v w (omega arith) l
+
+words-short : (words : List ℕ) (n : ℕ) → each n (λ z. leb (length (wordAt words z)) 5) ≡ true → (z : ℕ) → z < n → length (wordAt words z) ≤ 5
+words-short words n e z h = leb-true _ _ (each-at n (λ i. leb (length (wordAt words i)) 5) e z h)
+
+target-short : (b : ℕ) → within 3 1 b ≡ true → length (pick (eqb b etherValue) etherWord (digits b)) ≤ 5
+unfolding limitOf etherWord
+target-short b h =
+    by-limit 3 1 b h
+    (λ l. let n : b ≡ etherValue → ⊥ = λ e. omega arith in rw (ne-eqb _ _ n) (digits-short b 5 (omega arith) (omega arith)))
+    (λ f e. rw e (omega arith))
+
+-- a row within its limits is no longer
+row-short : (r : Row) → r .kind < 5 → Limited r → length (rowText r) ≤ wideOf (r .kind)
+unfolding rowLine rowWords kindWords modeWords wordAt formOf fieldsOf limitOf wideOf each
+row-short =
+    by-kind (λ r. Limited r → length (rowText r) ≤ wideOf (r .kind))
+    (λ a b c l.
+    let p = number-short 0 0 a 10 refl (omega arith) (omega arith) (l 0 (omega arith)) in
+    let q = number-short 0 1 b 10 refl (omega arith) (omega arith) (l 1 (omega arith)) in
+    simp length-append (omega arith))
+    (λ a b c l. let p = number-short 1 0 a 2 refl (omega arith) (omega arith) (l 0 (omega arith)) in simp length-append (omega arith))
+    (λ a b c l.
+    let p = number-short 2 0 a 2 refl (omega arith) (omega arith) (l 0 (omega arith)) in
+    let q = words-short kindWords 3 refl b (below-limit 2 1 b refl (l 1 (omega arith))) in
+    let r = number-short 2 2 c 10 refl (omega arith) (omega arith) (l 2 (omega arith)) in
+    simp length-append (omega arith))
+    (λ a b c l.
+    let p = number-short 3 0 a 3 refl (omega arith) (omega arith) (l 0 (omega arith)) in
+    let q = target-short b (l 1 (omega arith)) in
+    let r = words-short modeWords 2 refl c (below-limit 3 2 c refl (l 2 (omega arith))) in
+    simp length-append (omega arith))
+    (λ a b c l.
+    let p = number-short 4 0 a 3 refl (omega arith) (omega arith) (l 0 (omega arith)) in
+    let q = number-short 4 1 b 3 refl (omega arith) (omega arith) (l 1 (omega arith)) in
+    simp length-append (omega arith))
+
+-- nor is the `end` row
+end-short : (n : ℕ) → n < 10000 → length (rowText (endRow n)) ≤ 9
+unfolding rowLine rowWords wordAt formOf fieldsOf
+end-short n h = let p = digits-short n 4 h (omega arith) in simp length-append (omega arith)
+
+-- so many bytes for so many rows of each kind
+weight : List ℕ → ℕ
+weight counts = sum 5 (λ k. wideOf k * getD counts k 0)
+
+-- one row more of kind m
+module _ (old new : List ℕ) (m : ℕ) (same : getD new m 0 ≡ getD old m 0 + 1) (other : (k : ℕ) → (k ≡ m → ⊥) → getD new k 0 ≡ getD old k 0) where
+  before : (n : ℕ) → n ≤ m → sum n (λ k. wideOf k * getD new k 0) ≡ sum n (λ k. wideOf k * getD old k 0)
+  unfolding sum
+  before zero h = refl
+  before (suc n) h = rw (before n (omega arith), other n (λ e. omega arith))
+
+  weighed : (n : ℕ) → m < n → sum n (λ k. wideOf k * getD new k 0) ≡ sum n (λ k. wideOf k * getD old k 0) + wideOf m
+  unfolding sum
+  weighed zero h = absurd (omega arith)
+  weighed (suc n) h =
+      order m n
+      (λ l. rw (weighed n l, other n (λ e. omega arith)) (omega arith))
+      (λ l. let e : n ≡ m = omega arith in rw (before n (omega arith), e, same) (omega arith))
+
+weight-added : {t : Table} {r : Row} → Follows t r → weight (addRow t r .counts) ≡ weight (t .counts) + wideOf (r .kind)
+unfolding weight
+weight-added {t} {r} f = weighed (t .counts) (addRow t r .counts) (r .kind) (count-same f) (count-other f) 5 (f .worded .kind)
+
+-- the text of rows that take t to u
+built-short : {t u : Table} {rs : List Row} (n : ℕ) → Built t rs u
+    → length (textOf n rs) + weight (t .counts) ≤ weight (u .counts) + length (rowText (endRow n))
+unfolding textOf
+built-short n done = omega arith
+built-short n (more {r = r} {rs = rs} f b) =
+    let p = row-short r (f .worded .kind) (accepted f .limited) in
+    rw (length-append (rowText r) (textOf n rs)) (omega (arith, built-short n b, weight-added f))
+
+-- there are only so many rows of each kind
+most-rows : (t : Table) → Sized t → (totalOf (t .counts) ≤ 1360) × (weight (t .counts) ≤ 25456)
+unfolding mostOf weight wideOf sum
+most-rows t s =
+    let a = s .counted .most 0 (omega arith) in
+    let b = s .counted .most 1 (omega arith) in
+    let c = s .counted .most 2 (omega arith) in
+    let d = s .counted .most 3 (omega arith) in
+    let e = s .counted .most 4 (omega arith) in
+    (omega arith, omega arith)
+
+-- an accepted table has at most 1360 rows
+pub few-rows : (t u : Table) → checkTable t ≡ accepts u → length (rowsOf t) ≤ 1360
+few-rows t u e =
+    let b = table-whole t u e .built in
+    rw (← built-all b, rows-count) (most-rows u (built-sized empty-sized b) .0)
+
+-- the text of an accepted table is short enough to be read
+pub text-short : (t : Table) → checkTable t .answer ≡ Fine → length (tableText t) ≤ longest
+unfolding tableText
+text-short t e =
+    let q = fine-accepts (checkTable t) e in
+    let b = table-whole t (checkTable t .table) q .built in
+    let m = few-rows t (checkTable t .table) q in
+    let w = most-rows (checkTable t .table) (built-sized empty-sized b) .1 in
+    omega (arith, built-short (length (rowsOf t)) b, end-short (length (rowsOf t)) (omega arith))

@@ -1,0 +1,76 @@
+-- The refusals 2 to 5 of a row behind the rows of a table, and 7 of the whole: what the reader, the writer and the test of a given table share.
+use Prim.Native.Nat.{ℕ, zero, suc, _+_}
+use mathlib.Core.List.{List, [], _∷_, _++_}
+use mathlib.Core.Bool.{Bool}
+use lib.ListN.{getD}
+use lib.Dec.{ltb, eqb}
+use Rattle.text.specs.Parts.{pick}
+use Rattle.row.specs.declared.Row.{Row}
+use Rattle.model.specs.Tests.{_implies_, each, need}
+use Rattle.model.specs.Rows.{taskFault, actFault, codelFault, edgeFault, mutexFault, lastFault}
+use Rattle.model.specs.Tables as model
+use Rattle.table.specs.Tables.{emptyTable, rowOf, addRow, targetOf, tableOf}
+use Rattle.table.specs.declared.Table.{Table}
+use Rattle.table.specs.declared.Answer.the-variants.{Fine, Refused}
+use Rattle.table.specs.declared.Read.{Read}
+use Rattle.table.specs.declared.Verdict.{Verdict}
+use Rattle.table.specs.declared.Verdict.the-variants as verdict
+
+-- 2: "row out of its place": there are rows of a later kind
+unfoldable pub inPlace : List ℕ → ℕ → Bool
+inPlace counts k = each 5 (λ j. ltb k j implies eqb (getD counts j 0) 0)
+
+-- the row's own refusal behind the rows of K
+unfoldable pub kindFault : model.Table → Row → ℕ
+kindFault K r =
+    pick (eqb (r .kind) 0) (taskFault (K .ntasks) (r .a) (r .b))
+    (pick (eqb (r .kind) 1) (actFault K (K .nacts) (r .a))
+    (pick (eqb (r .kind) 2) (codelFault K (K .ncodels) (r .a) (r .b) (r .c))
+    (pick (eqb (r .kind) 3) (edgeFault K (K .nedges) (r .a) (targetOf (r .b)) (eqb (r .c) 1))
+    (mutexFault K (K .nmutex) (r .a) (r .b)))))
+
+unfoldable pub rowFault : Table → Row → ℕ
+rowFault t r = need (inPlace (t .counts) (r .kind)) 2 (kindFault (tableOf t) r)
+
+-- the check's answer for a fault, and the number of an answer
+abbrev pub verdictOf : ℕ → Verdict
+verdictOf zero = verdict.Fine
+verdictOf (suc n) = verdict.Refused (suc n)
+
+abbrev pub numberOf : Verdict → ℕ
+numberOf verdict.Fine = 0
+numberOf (verdict.Refused n) = n
+
+-- a refusal's answer: no table comes with it
+abbrev pub refused : ℕ → ℕ → Read
+refused n l = record { answer = Refused n l; table = emptyTable }
+
+-- on no fault go on, else refuse at line l
+abbrev pub onFault : ℕ → ℕ → Read → Read
+onFault zero l go = go
+onFault (suc n) l go = refused (suc n) l
+
+-- 7 after the last row: "line: the `end` row"
+abbrev pub closed : Table → ℕ → Read
+closed t l = onFault (lastFault (tableOf t)) l (record { answer = Fine; table = t })
+
+-- the rows behind those of t, the first of them at line l: the table that they make, or the first refusal
+unfoldable pub checkRows : Table → ℕ → List Row → Read
+checkRows t l [] = closed t l
+checkRows t l (r ∷ rs) = onFault (rowFault t r) l (checkRows (addRow t r) (l + 1) rs)
+
+-- the rows of a table: its tasks, activities, codels, edges, mutexes, each in row order
+unfoldable pub rowsFrom : List ℕ → ℕ → ℕ → ℕ → List Row
+rowsFrom rows k i zero = []
+rowsFrom rows k i (suc n) = rowOf rows k i ∷ rowsFrom rows k (i + 1) n
+
+unfoldable pub kindsFrom : Table → ℕ → ℕ → List Row
+kindsFrom t k zero = []
+kindsFrom t k (suc n) = rowsFrom (t .rows) k 0 (getD (t .counts) k 0) ++ kindsFrom t (k + 1) n
+
+abbrev pub rowsOf : Table → List Row
+rowsOf t = kindsFrom t 0 5
+
+-- a given table, checked as its text would be: the answer, and the table that its rows make
+unfoldable pub checkTable : Table → Read
+checkTable t = checkRows emptyTable 1 (rowsOf t)

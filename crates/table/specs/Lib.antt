@@ -1,0 +1,4 @@
+pub mod Tables
+pub mod Checks
+pub mod Marks
+pub mod Texts

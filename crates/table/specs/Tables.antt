@@ -1,0 +1,101 @@
+-- The table by value: its rows by kind, three numbers a row; and what the rules see of it.
+use Prim.Native.Nat.{ℕ, _+_, _*_, _≤_, _<_, min}
+use mathlib.Core.List.{List, [], _∷_}
+use mathlib.Core.Bool.{Bool}
+use mathlib.Core.Path.{_≡_}
+use lib.ListN.{length, getD, set, replicate}
+use lib.Seq.{sets}
+use lib.Dec.{ltb, eqb}
+use Rattle.text.specs.Parts.{pick}
+use Rattle.row.specs.Kinds.{mostOf, formOf, noField, aKind, aMode}
+use Rattle.row.specs.Row.{etherValue}
+use Rattle.row.specs.declared.Row.{Row}
+use Rattle.model.specs.Tests.{_and_, _or_}
+use Rattle.model.specs.Tables as model
+use Rattle.model.specs.declared.Place.{Place}
+use Rattle.model.specs.declared.Place.the-variants.{Ether, Codel}
+use Rattle.table.specs.declared.Table.{Table}
+
+-- how many rows of the five kinds there may be in all, three numbers each
+abbrev pub slots : ℕ
+slots = 4080
+
+abbrev pub made : List ℕ → List ℕ → Table
+made counts rows = record { counts = counts; rows = rows }
+
+abbrev pub emptyTable : Table
+emptyTable = made (replicate 5 0) (replicate slots 0)
+
+-- how many rows of a kind stand before the first of this kind
+unfoldable pub baseOf : ℕ → ℕ
+baseOf k = getD (0 ∷ 16 ∷ 80 ∷ 336 ∷ 848 ∷ []) k 0
+
+-- where the three numbers of row i of a kind stand
+abbrev pub slotOf : ℕ → ℕ → ℕ
+slotOf k i = 3 * (baseOf k + i)
+
+-- no kind has more rows than there may be; how many there are in all
+pub record Counted (counts : List ℕ) : Type 0 where
+  pub kinds : length counts ≡ 5
+  pub most : (k : ℕ) → k < 5 → getD counts k 0 ≤ mostOf k
+
+abbrev pub totalOf : List ℕ → ℕ
+totalOf counts = getD counts 0 0 + getD counts 1 0 + getD counts 2 0 + getD counts 3 0 + getD counts 4 0
+
+-- a field's value in 32 bits, and back: the largest stands for `ether`
+abbrev pub etherSlot : ℕ
+etherSlot = 4294967295
+
+unfoldable pub narrowed : ℕ → ℕ
+narrowed v = min v etherSlot
+
+unfoldable pub widened : ℕ → ℕ
+widened x = pick (eqb x etherSlot) etherValue x
+
+-- what a stored number says in a field of a form: any codel kind past `main` is `main`, any mode past `pause` is `pause`
+unfoldable pub shown : ℕ → ℕ → ℕ
+shown form x =
+    pick (eqb form noField) 0
+    (pick (eqb form aKind) (min x 2)
+    (pick (eqb form aMode) (min x 1) (widened x)))
+
+-- field j of row i of a kind; 0 for a row that there is no room for
+unfoldable pub fieldOf : List ℕ → ℕ → ℕ → ℕ → ℕ
+fieldOf rows k i j = pick (ltb i (mostOf k)) (shown (formOf k j) (getD rows (slotOf k i + j) 0)) 0
+
+-- row i of a kind
+abbrev pub rowOf : List ℕ → ℕ → ℕ → Row
+rowOf rows k i = record { kind = k; a = fieldOf rows k i 0; b = fieldOf rows k i 1; c = fieldOf rows k i 2 }
+
+-- one row more
+unfoldable pub addRow : Table → Row → Table
+addRow t r = record {
+  counts = set (t .counts) (r .kind) (getD (t .counts) (r .kind) 0 + 1);
+  rows = sets (t .rows) (slotOf (r .kind) (getD (t .counts) (r .kind) 0)) (narrowed (r .a) ∷ narrowed (r .b) ∷ narrowed (r .c) ∷ []);
+}
+
+-- the pair (a, b) stands below the pair (c, d)
+abbrev pub pairBelow : ℕ → ℕ → ℕ → ℕ → Bool
+pairBelow a b c d = ltb a c or (eqb a c and ltb b d)
+
+-- a field that may name a codel
+abbrev pub targetOf : ℕ → Place
+targetOf v = pick (eqb v etherValue) Ether (Codel v)
+
+-- what the rules see
+unfoldable pub tableOf : Table → model.Table
+tableOf t = record {
+  ntasks = getD (t .counts) 0 0;
+  nacts = getD (t .counts) 1 0;
+  ncodels = getD (t .counts) 2 0;
+  nedges = getD (t .counts) 3 0;
+  nmutex = getD (t .counts) 4 0;
+  period = λ i. fieldOf (t .rows) 0 i 0;
+  keep = λ i. fieldOf (t .rows) 0 i 1;
+  task = λ i. fieldOf (t .rows) 1 i 0;
+  owner = λ i. fieldOf (t .rows) 2 i 0;
+  kind = λ i. fieldOf (t .rows) 2 i 1;
+  limit = λ i. fieldOf (t .rows) 2 i 2;
+  edge = λ i. record { source = fieldOf (t .rows) 3 i 0; target = targetOf (fieldOf (t .rows) 3 i 1); pause = eqb (fieldOf (t .rows) 3 i 2) 1 };
+  mutex = λ i. record { lo = fieldOf (t .rows) 4 i 0; hi = fieldOf (t .rows) 4 i 1 };
+}
