@@ -35,7 +35,7 @@ use Rattle.model.proofs.Frames.{Handed, handed-to, given-back, held-on,
 use Rattle.model.proofs.Sentences.{held-fine, managing-of, clock-bound, enter-fine, lm-fine, cx-fine, rested-fine, enter-runs, again-runs, cx-clear, ea-own, fa-rests, st-counts, st-waits, sm-counts, listed-runs, aged-fine}
 
 -- the first number that passes is below the bound and passes
-first-at : (n : ℕ) (p : ℕ → Bool) (c : ℕ) → first n p ≡ Codel c → (c < n) × T (p c)
+pub first-at : (n : ℕ) (p : ℕ → Bool) (c : ℕ) → first n p ≡ Codel c → (c < n) × T (p c)
 unfolding first
 first-at zero p c e = let z : _≡_ {A = ℕ} 0 1 = cc in absurd (omega arith)
 first-at (suc n) p c e = go (first-at n p c) (first n p) refl (p n) refl e

@@ -26,7 +26,9 @@ shared-slice-read-if1 : tie.Need-shared-slice-read-if1 Inv-loop μ-loop
 shared-slice-read-if1 c = search needs
 
 returns : tie.Need-returns Inv-loop μ-loop
-returns c = all-not (c .before .before .before .before .args .marks .now) (c .before .before .before .before .args .from) _ _ (c .before .before .loop-test .taken) (c .if1 .taken)
+returns c =
+    let args = c .before .before .before .before .args in
+    all-not (args .marks .now) (args .from) _ _ (c .before .before .loop-test .taken) (c .if1 .taken)
 
 add-i : tie.Need-add-i Inv-loop μ-loop
 add-i c = search needs
@@ -35,10 +37,14 @@ loop-less : tie.Need-loop-less Inv-loop μ-loop
 loop-less c = search needs
 
 loop-again : tie.Need-loop-again Inv-loop μ-loop
-loop-again c = (search needs, all-more (c .before .before .before .before .args .marks .now) (c .before .before .before .before .args .from) _ (c .before .before .before .loop .inv .1) (c .if1 .left))
+loop-again c =
+    let args = c .before .before .before .before .args in
+    (search needs, all-more (args .marks .now) (args .from) _ (c .before .before .before .loop .inv .1) (c .if1 .left))
 
 returns-2 : tie.Need-returns-2 Inv-loop μ-loop
-returns-2 c = all-end (c .before .before .args .marks .now) (c .before .before .args .from) _ (c .before .loop .inv .1) _ (c .before .loop .inv .0) (c .loop-test .left)
+returns-2 c =
+    let args = c .before .before .args in
+    all-end (args .marks .now) (args .from) _ (c .before .loop .inv .1) _ (c .before .loop .inv .0) (c .loop-test .left)
 
 pub all-marked-spec : {M : Type 1} → statement M
 all-marked-spec =

@@ -1,8 +1,8 @@
 -- `codel_fault` meets its contract.
 use native.Mathlib.Omega.{arith}
+use borrow.Author.Needs.{needs}
 use Rattle.row.specs.Kinds.{mostOf}
 use Rattle.table.proofs.Turns.{codel-falls, codel-full, codel-limit, codel-stray, codel-second, codel-fine}
-use borrow.Author.Needs.{needs}
 use Rattle.table.proofs.codel_fault.Statement.{statement}
 use Rattle.table.proofs.codel_fault.Tie as tie
 
@@ -35,7 +35,9 @@ returns-4 c = search (codel-stray)
 
 is-second-requires : tie.Need-is-second-requires
 unfolding mostOf
-is-second-requires c κs = let b = c .before .before .before .before .before .before .before .before .before .before .pre in (b .noted .size, omega (arith, b .counted .most 1 (omega arith)))
+is-second-requires c κs =
+    let b = c .before .before .before .before .before .before .before .before .before .before .pre in
+    (b .noted .size, omega (arith, b .counted .most 1 (omega arith)))
 
 returns-5 : tie.Need-returns-5
 returns-5 c = search (codel-second)

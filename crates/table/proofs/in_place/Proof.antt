@@ -27,7 +27,9 @@ loop-less : tie.Need-loop-less Inv-loop μ-loop
 loop-less c = search needs
 
 loop-again : tie.Need-loop-again Inv-loop μ-loop
-loop-again c = (search needs, place-skip (c .before .before .before .args .t1) (c .before .before .before .args .k) _ (c .before .before .loop .inv .1) (c .if1 .taken))
+loop-again c =
+    let args = c .before .before .before .args in
+    (search needs, place-skip (args .t1) (args .k) _ (c .before .before .loop .inv .1) (c .if1 .taken))
 
 mul-if2 : tie.Need-mul-if2 Inv-loop μ-loop
 mul-if2 c = search needs
@@ -45,7 +47,9 @@ loop-less-2 : tie.Need-loop-less-2 Inv-loop μ-loop
 loop-less-2 c = search needs
 
 loop-again-2 : tie.Need-loop-again-2 Inv-loop μ-loop
-loop-again-2 c = (search needs, place-more (c .before .before .before .before .args .t1) (c .before .before .before .before .args .k) _ (c .before .before .before .loop .inv .1) (c .before .if1 .left) (c .if2 .left))
+loop-again-2 c =
+    let args = c .before .before .before .before .args in
+    (search needs, place-more (args .t1) (args .k) _ (c .before .before .before .loop .inv .1) (c .before .if1 .left) (c .if2 .left))
 
 returns-2 : tie.Need-returns-2 Inv-loop μ-loop
 returns-2 c = search (place-end)

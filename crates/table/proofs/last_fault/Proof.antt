@@ -1,8 +1,8 @@
-use native.Mathlib.Omega.{arith}
-use Rattle.row.specs.Kinds.{mostOf}
 -- `last_fault` meets its contract.
-use Rattle.table.proofs.Turns.{last-none, last-task, last-act, last-codel, last-fine}
+use native.Mathlib.Omega.{arith}
 use borrow.Author.Needs.{needs}
+use Rattle.row.specs.Kinds.{mostOf}
+use Rattle.table.proofs.Turns.{last-none, last-task, last-act, last-codel, last-fine}
 use Rattle.table.proofs.last_fault.Statement.{statement}
 use Rattle.table.proofs.last_fault.Tie as tie
 
@@ -17,7 +17,9 @@ array-read-all-marked c = search needs
 
 all-marked-requires : tie.Need-all-marked-requires
 unfolding mostOf
-all-marked-requires c κs = let b = c .before .before .before .pre in omega (arith, b .noted .size, b .counted .most 0 (omega arith))
+all-marked-requires c κs =
+    let b = c .before .before .before .pre in
+    omega (arith, b .noted .size, b .counted .most 0 (omega arith))
 
 returns-2 : tie.Need-returns-2
 returns-2 c = search (last-task)
@@ -27,7 +29,9 @@ array-read-all-marked-2 c = search needs
 
 all-marked-requires-2 : tie.Need-all-marked-requires-2
 unfolding mostOf
-all-marked-requires-2 c κs = let b = c .before .before .before .before .before .pre in omega (arith, b .noted .size, b .counted .most 1 (omega arith))
+all-marked-requires-2 c κs =
+    let b = c .before .before .before .before .before .pre in
+    omega (arith, b .noted .size, b .counted .most 1 (omega arith))
 
 returns-3 : tie.Need-returns-3
 returns-3 c = search (last-act)
@@ -37,7 +41,9 @@ array-read-all-marked-3 c = search needs
 
 all-marked-requires-3 : tie.Need-all-marked-requires-3
 unfolding mostOf
-all-marked-requires-3 c κs = let b = c .before .before .before .before .before .before .before .pre in omega (arith, b .noted .size, b .counted .most 2 (omega arith))
+all-marked-requires-3 c κs =
+    let b = c .before .before .before .before .before .before .before .pre in
+    omega (arith, b .noted .size, b .counted .most 2 (omega arith))
 
 returns-4 : tie.Need-returns-4
 returns-4 c = search (last-codel)

@@ -1,7 +1,7 @@
 -- `narrow` meets its contract.
 use native.Mathlib.Omega.{arith}
-use Rattle.table.specs.Tables.{narrowed}
 use borrow.Author.Needs.{needs}
+use Rattle.table.specs.Tables.{narrowed}
 use Rattle.table.proofs.narrow.Statement.{statement}
 use Rattle.table.proofs.narrow.Tie as tie
 

@@ -1,26 +1,22 @@
-use mir.Val.{Fits}
-use mir.Syntax.{w64}
 -- `put_table` meets its contract. Writing the rows left gives what writing all gives.
 use Prim.Native.Nat.{_+_, _-_}
-use mathlib.Core.Path.{_≡_}
-use lib.ListN.{length, getD}
-use lib.Seq.{sets}
-use native.Mathlib.Omega.{arith}
+use mathlib.Core.Path.{ap, _∙_}
+use lib.ListN.{length}
+use lib.Seq.{length-sets}
 use borrow.Author.Needs.{needs}
-use Rattle.table.specs.Tables.{made, totalOf}
-use Rattle.table.specs.Texts.{textOf, tableText}
-use Rattle.table.proofs.TableTurns.{left, less-skip, less-next, few, width-start, width-skip, bytes-start, put-skip, put-kept, put-wide, put-more, end-kept, end-put}
+use Rattle.table.specs.Tables.{made}
+use Rattle.table.proofs.TableTurns.{next-fits, left, less-skip, less-next, few, Putting, put-start, put-skip, put-more, put-end}
 use Rattle.table.proofs.put_table.Statement.{statement}
 use Rattle.table.proofs.put_table.Tie as tie
 
 abbrev Inv-loop : tie.InvT-loop
-Inv-loop buf₀ given have at₀ k₀ i₀ buf at k i = (length buf ≡ length buf₀) × (at + length (textOf (totalOf have) (left (made have given) k i)) ≡ length (tableText (made have given))) × (sets buf at (textOf (totalOf have) (left (made have given) k i)) ≡ sets buf₀ 0 (tableText (made have given)))
+Inv-loop buf₀ given have at₀ k₀ i₀ buf at k i = Putting (made have given) k i at buf buf₀
 
 abbrev μ-loop : tie.MeasureT-loop
 μ-loop buf₀ given have at₀ k₀ i₀ buf at k i = length (left (made have given) k i) + (5 - k)
 
 loop-holds : tie.Need-loop-holds Inv-loop μ-loop
-loop-holds c = (search needs, search (width-start), search (bytes-start))
+loop-holds c = search (put-start)
 
 mul-if1 : tie.Need-mul-if1 Inv-loop μ-loop
 mul-if1 c = search needs
@@ -35,7 +31,7 @@ loop-less : tie.Need-loop-less Inv-loop μ-loop
 loop-less c = search (less-skip)
 
 loop-again : tie.Need-loop-again Inv-loop μ-loop
-loop-again c = (search needs, search (width-skip), search (put-skip))
+loop-again c = search (put-skip)
 
 slice-aggregate-row-at : tie.Need-slice-aggregate-row-at Inv-loop μ-loop
 slice-aggregate-row-at c = search needs
@@ -47,13 +43,13 @@ put-row-requires : tie.Need-put-row-requires Inv-loop μ-loop
 put-row-requires c κs = search needs
 
 add-i : tie.Need-add-i Inv-loop μ-loop
-add-i c = let e : Fits w64 (getD (c .before .before .before .before .before .before .before .before .before .before .before .before .args .t .counts) (c .before .before .before .before .before .before .before .before .loop .k) 0) = search needs in omega arith
+add-i c = next-fits _ _ (c .before .before .before .before .before .before .if1 .left) (search needs)
 
 loop-less-2 : tie.Need-loop-less-2 Inv-loop μ-loop
 loop-less-2 c = search (less-next)
 
 loop-again-2 : tie.Need-loop-again-2 Inv-loop μ-loop
-loop-again-2 c = let l = c .before .before .before .before .before .before .before .before .loop .inv in (search (put-kept), put-wide _ _ _ _ _ _ _ (l .0) (c .before .before .before .before .before .before .before .before .before .before .before .before .pre .1) (l .1) (l .2) (c .before .before .before .before .before .before .before .loop-test .taken) (c .before .before .before .before .before .before .if1 .left) _ (c .before .before .before .row-at .ensures .0) _ _ (c .before .before .put-row .ensures), put-more _ _ _ _ _ _ _ (l .0) (c .before .before .before .before .before .before .before .before .before .before .before .before .pre .1) (l .1) (l .2) (c .before .before .before .before .before .before .before .loop-test .taken) (c .before .before .before .before .before .before .if1 .left) _ (c .before .before .before .row-at .ensures .0) _ _ (c .before .before .put-row .ensures))
+loop-again-2 c = search (put-more)
 
 total-requires : tie.Need-total-requires Inv-loop μ-loop
 total-requires c κs = search (few)
@@ -64,11 +60,16 @@ end-row-requires c κs = search needs
 put-row-requires-2 : tie.Need-put-row-requires-2 Inv-loop μ-loop
 put-row-requires-2 c κs = search needs
 
-same-length : tie.Need-same-length Inv-loop μ-loop
-same-length c = search (end-kept)
-
 returns : tie.Need-returns Inv-loop μ-loop
-returns c = let l = c .before .before .before .before .before .before .before .loop .inv in end-put _ _ _ _ _ _ _ (l .0) (c .before .before .before .before .before .before .before .before .before .before .before .pre .1) (l .1) (l .2) (c .before .before .before .before .before .before .loop-test .left) _ (c .before .before .before .before .total .ensures) _ (c .before .before .before .end-row .ensures) _ _ (c .before .before .put-row2 .ensures)
+returns c =
+    let row = c .before .before .before in
+    let done = row .before .before .before in
+    let turns = done .before in
+    put-end (turns .loop .inv) (turns .before .before .before .before .pre .1) _ _ _ (c .before .before .put-row2 .ensures) (done .loop-test .left)
+    _ (row .before .total .ensures) (row .end-row .ensures)
+
+same-length : tie.Need-same-length Inv-loop μ-loop
+same-length c = ap length (returns c .1) ∙ simp length-sets
 
 pub put-table-spec : {M : Type 1} → statement M
 put-table-spec =

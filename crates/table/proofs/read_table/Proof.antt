@@ -1,21 +1,14 @@
 -- `read_table` meets its contract. Reading the lines left behind the rows stored gives what reading all gives.
-use Prim.Native.Nat.{_+_, _-_, _≤_}
-use mathlib.Core.Path.{_≡_}
+use Prim.Native.Nat.{_-_}
 use lib.ListN.{length}
-use native.Mathlib.Omega.{arith}
 use borrow.Author.Needs.{needs}
-use Rattle.text.specs.Parts.{partsFrom}
 use Rattle.text.proofs.Turns.{part-starts}
-use Rattle.table.specs.Tables.{made}
-use Rattle.table.specs.Marks.{Building}
-use Rattle.table.specs.Texts.{readLines, readTable}
-use Rattle.table.proofs.Marks.{building-empty}
-use Rattle.table.proofs.TableTurns.{read-long, read-start, read-short, read-bad, read-count, read-behind, read-whole, said-small, said-worded, verdict-fine, read-refused, storable, building-more, read-more, read-absent}
+use Rattle.table.proofs.TableTurns.{read-less, read-long, Reading, read-start, read-absent, read-short, read-bad, read-count, read-behind, read-whole, said-small, read-refused, read-storable, read-more}
 use Rattle.table.proofs.read_table.Statement.{statement}
 use Rattle.table.proofs.read_table.Tie as tie
 
 abbrev Inv-loop : tie.InvT-loop
-Inv-loop s counts₀ rows₀ marks₀ at₀ line₀ counts rows marks at line = (at ≤ length s) × (1 ≤ line) × (line ≤ at + 1) × Building (made counts rows) marks × (readLines (made counts rows) line (partsFrom 10 s at) ≡ readTable s)
+Inv-loop s counts₀ rows₀ marks₀ at₀ line₀ counts rows marks at line = Reading s at line counts rows marks
 
 abbrev μ-loop : tie.MeasureT-loop
 μ-loop s counts₀ rows₀ marks₀ at₀ line₀ counts rows marks at line = length s - at
@@ -27,7 +20,7 @@ returns : tie.Need-returns Inv-loop μ-loop
 returns c = search (read-long)
 
 loop-holds : tie.Need-loop-holds Inv-loop μ-loop
-loop-holds c = (search needs, search needs, search needs, search (building-empty), search (read-start))
+loop-holds c = search (read-start)
 
 next-byte-requires : tie.Need-next-byte-requires Inv-loop μ-loop
 next-byte-requires c κs = search needs
@@ -99,7 +92,7 @@ slice-aggregate-check-row-2 : tie.Need-slice-aggregate-check-row-2 Inv-loop μ-l
 slice-aggregate-check-row-2 c = search needs
 
 check-row-requires : tie.Need-check-row-requires Inv-loop μ-loop
-check-row-requires c κs = (search needs, search (said-small))
+check-row-requires c κs = search (said-small)
 
 enum-told-2 : tie.Need-enum-told-2 Inv-loop μ-loop
 enum-told-2 c = search needs
@@ -123,7 +116,13 @@ slice-aggregate-store-row-2 : tie.Need-slice-aggregate-store-row-2 Inv-loop μ-l
 slice-aggregate-store-row-2 c = search needs
 
 store-row-requires : tie.Need-store-row-requires Inv-loop μ-loop
-store-row-requires c κs = storable _ _ _ (c .before .before .before .before .before .before .before .before .before .before .before .before .before .before .before .before .before .loop .inv .3) _ (said-worded _ _ (c .before .before .before .before .before .before .before .before .before .before .before .before .read-row .ensures) _ (c .before .before .before .before .before .before .before .before .before .before .r .given .1) (c .before .before .before .before .before .before .before .if3 .left)) (verdict-fine _ _ (c .before .before .before .before .check-row .ensures) (c .before .before .enum-told2 .given .1))
+store-row-requires c κs =
+    let checked = c .before .before .before .before in
+    let row = checked .before .before .before .before .before .before in
+    let line = row .before .before in
+    let turn = line .before .before .before .before in
+    read-storable (turn .before .loop .inv) (turn .loop-test .taken) _ (line .before .before .before .next-byte .ensures) (line .before .before .if2 .left)
+    _ (line .read-row .ensures) _ (row .r .given .1) (checked .before .before .before .if3 .left) _ (checked .check-row .ensures) (c .before .before .enum-told2 .given .1)
 
 add-at : tie.Need-add-at Inv-loop μ-loop
 add-at c = search needs
@@ -132,10 +131,17 @@ add-line : tie.Need-add-line Inv-loop μ-loop
 add-line c = search needs
 
 loop-less : tie.Need-loop-less Inv-loop μ-loop
-loop-less c = omega (arith, part-starts _ _ _ 10 (c .before .before .before .before .before .before .before .before .before .before .before .before .before .before .before .before .before .before .before .before .loop .inv .0) (c .before .before .before .before .before .before .before .before .before .before .before .before .before .before .before .before .before .before .next-byte .ensures))
+loop-less c = search (read-less)
 
 loop-again : tie.Need-loop-again Inv-loop μ-loop
-loop-again c = let l = c .before .before .before .before .before .before .before .before .before .before .before .before .before .before .before .before .before .before .before .before .loop .inv in let b = part-starts _ _ _ 10 (l .0) (c .before .before .before .before .before .before .before .before .before .before .before .before .before .before .before .before .before .before .next-byte .ensures) in let w = said-worded _ _ (c .before .before .before .before .before .before .before .before .before .before .before .before .before .before .before .read-row .ensures) _ (c .before .before .before .before .before .before .before .before .before .before .before .before .before .r .given .1) (c .before .before .before .before .before .before .before .before .before .before .if3 .left) in let f = verdict-fine _ _ (c .before .before .before .before .before .before .before .check-row .ensures) (c .before .before .before .before .before .enum-told2 .given .1) in (omega arith, omega arith, omega arith, building-more _ _ _ (l .3) _ w f _ _ (c .before .before .store-row .ensures .0) _ (c .before .before .store-row .ensures .1), read-more _ _ _ _ _ _ (l .4) (l .0) (c .before .before .before .before .before .before .before .before .before .before .before .before .before .before .before .before .before .before .before .loop-test .taken) _ (c .before .before .before .before .before .before .before .before .before .before .before .before .before .before .before .before .before .before .next-byte .ensures) (c .before .before .before .before .before .before .before .before .before .before .before .before .before .before .before .before .before .if2 .left) _ (c .before .before .before .before .before .before .before .before .before .before .before .before .before .before .before .read-row .ensures) _ (c .before .before .before .before .before .before .before .before .before .before .before .before .before .r .given .1) (c .before .before .before .before .before .before .before .before .before .before .if3 .left) _ (c .before .before .before .before .before .before .before .check-row .ensures) (c .before .before .before .before .before .enum-told2 .given .1) _ _ (c .before .before .store-row .ensures .0))
+loop-again c =
+    let checked = c .before .before .before .before .before .before .before in
+    let row = checked .before .before .before .before .before .before in
+    let line = row .before .before in
+    let turn = line .before .before .before .before in
+    read-more (turn .before .loop .inv) (turn .loop-test .taken) _ (line .before .before .before .next-byte .ensures) (line .before .before .if2 .left)
+    _ (line .read-row .ensures) _ (row .r .given .1) (checked .before .before .before .if3 .left) _ (checked .check-row .ensures)
+    (c .before .before .before .before .before .enum-told2 .given .1) _ _ _ (c .before .before .store-row .ensures)
 
 refuse-requires-7 : tie.Need-refuse-requires-7 Inv-loop μ-loop
 refuse-requires-7 c κs = search needs

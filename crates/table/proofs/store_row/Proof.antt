@@ -1,16 +1,17 @@
 -- `store_row` meets its contract.
-use native.Mathlib.Omega.{arith}
 use Prim.Native.Nat.{_+_, _≤_}
+use native.Mathlib.Omega.{arith}
 use lib.ListN.{getD, length-set}
+use borrow.Author.Needs.{needs}
 use Rattle.row.proofs.Tables.{most-within}
 use Rattle.table.specs.Tables.{slots, baseOf, slotOf}
 use Rattle.table.proofs.Turns.{slot-room, row-stored}
-use borrow.Author.Needs.{needs}
 use Rattle.table.proofs.store_row.Statement.{statement}
 use Rattle.table.proofs.store_row.Tie as tie
 
 -- the place of the row is within the rows
-room : (c : tie.After-slice-known2) → slotOf (c .before .before .args .r .kind) (getD (c .before .before .args .t2) (c .before .before .args .r .kind) 0) + 3 ≤ slots
+room : (c : tie.After-slice-known2)
+    → slotOf (c .before .before .args .r .kind) (getD (c .before .before .args .t2) (c .before .before .args .r .kind) 0) + 3 ≤ slots
 room c = slot-room _ _ (c .before .before .pre .2) (c .before .before .pre .3)
 
 mul-n : tie.Need-mul-n
@@ -81,7 +82,9 @@ slice-write-marks : tie.Need-slice-write-marks
 slice-write-marks c = search needs
 
 add-more : tie.Need-add-more
-add-more c = omega (arith, most-within (c .before .before .before .before .before .before .args .r .kind), c .before .before .before .before .before .before .pre .3)
+add-more c =
+    let start = c .before .before .before .before .before .before in
+    omega (arith, most-within (start .args .r .kind), start .pre .3)
 
 mul-more : tie.Need-mul-more
 mul-more c = search needs
@@ -97,7 +100,8 @@ same-length-2 c = search needs
 
 returns : tie.Need-returns
 unfolding baseOf
-returns c = (row-stored _ _ _ _ _ _ (c .before .before .before .narrow .ensures) (c .before .before .narrow2 .ensures) (c .before .narrow3 .ensures), rw (c .mark-of .ensures .0))
+returns c =
+    (row-stored _ _ _ _ _ _ (c .before .before .before .narrow .ensures) (c .before .before .narrow2 .ensures) (c .before .narrow3 .ensures), rw (c .mark-of .ensures .0))
 
 pub store-row-spec : {M : Type 1} → statement M
 store-row-spec =

@@ -1,15 +1,12 @@
-use mir.Val.{Fits}
-use mir.Syntax.{w64}
 -- `text_width` meets its contract. The width so far and that of the rows left make the whole.
 use Prim.Native.Nat.{_+_, _-_}
 use mathlib.Core.Path.{_≡_}
-use lib.ListN.{length, getD}
-use native.Mathlib.Omega.{arith}
+use lib.ListN.{length}
 use borrow.Author.Needs.{needs}
 use Rattle.table.specs.Tables.{made, totalOf}
 use Rattle.table.specs.Texts.{textOf, tableText}
 use Rattle.table.proofs.Widths.{text-short}
-use Rattle.table.proofs.TableTurns.{left, less-skip, less-next, few, width-start, width-skip, width-next, width-fits, width-end, end-fits}
+use Rattle.table.proofs.TableTurns.{next-fits, left, less-skip, less-next, few, width-start, width-skip, width-next, width-fits, width-end, end-fits}
 use Rattle.table.proofs.text_width.Statement.{statement}
 use Rattle.table.proofs.text_width.Tie as tie
 
@@ -50,7 +47,7 @@ add-width : tie.Need-add-width Inv-loop μ-loop
 add-width c = search (width-fits, text-short)
 
 add-i : tie.Need-add-i Inv-loop μ-loop
-add-i c = let e : Fits w64 (getD (c .before .before .before .before .before .before .before .before .args .t .counts) (c .before .before .before .before .before .loop .k) 0) = search needs in omega arith
+add-i c = next-fits _ _ (c .before .before .before .if1 .left) (search needs)
 
 loop-less-2 : tie.Need-loop-less-2 Inv-loop μ-loop
 loop-less-2 c = search (less-next)
@@ -71,7 +68,10 @@ add-result : tie.Need-add-result Inv-loop μ-loop
 add-result c = search (end-fits, text-short)
 
 returns : tie.Need-returns Inv-loop μ-loop
-returns c = width-end _ _ _ _ _ _ (c .before .before .before .before .loop .inv) (c .before .before .before .loop-test .left) _ (c .before .before .total .ensures) _ (c .before .end-row .ensures) _ (c .row-width2 .ensures)
+returns c =
+    let done = c .before .before .before in
+    width-end _ _ _ _ _ _ (done .before .loop .inv) (done .loop-test .left) _ (c .before .before .total .ensures)
+    _ (c .before .end-row .ensures) _ (c .row-width2 .ensures)
 
 pub text-width-spec : {M : Type 1} → statement M
 text-width-spec =

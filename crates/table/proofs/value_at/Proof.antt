@@ -1,9 +1,9 @@
 -- `value_at` meets its contract.
-use native.Mathlib.Omega.{arith}
 use Prim.Native.Nat.{_+_, _≤_}
+use native.Mathlib.Omega.{arith}
+use borrow.Author.Needs.{needs}
 use Rattle.table.specs.Tables.{slots, baseOf, slotOf}
 use Rattle.table.proofs.Turns.{field-past, field-is, slot-room}
-use borrow.Author.Needs.{needs}
 use Rattle.table.proofs.value_at.Statement.{statement}
 use Rattle.table.proofs.value_at.Tie as tie
 

@@ -1,7 +1,7 @@
-use native.Mathlib.Omega.{arith}
 -- `write_table` meets its contract.
-use Rattle.table.proofs.TableTurns.{checked-fine, write-refused, write-short, write-whole}
+use native.Mathlib.Omega.{arith}
 use borrow.Author.Needs.{needs}
+use Rattle.table.proofs.TableTurns.{checked-fine, write-refused, write-short, write-whole}
 use Rattle.table.proofs.write_table.Statement.{statement}
 use Rattle.table.proofs.write_table.Tie as tie
 
@@ -24,7 +24,9 @@ text-width-requires : tie.Need-text-width-requires
 text-width-requires c κs = search (checked-fine)
 
 returns-2 : tie.Need-returns-2
-returns-2 c = write-short _ _ (c .before .before .before .before .check-table .ensures) _ (c .before .before .enum-told .given .1) _ (c .before .text-width .ensures) (c .if1 .taken)
+returns-2 c =
+    let told = c .before .before in
+    write-short _ _ (told .before .before .check-table .ensures) _ (told .enum-told .given .1) _ (c .before .text-width .ensures) (c .if1 .taken)
 
 put-table-requires : tie.Need-put-table-requires
 put-table-requires c κs = (search (checked-fine), omega arith)
@@ -33,7 +35,10 @@ same-length : tie.Need-same-length
 same-length c = search needs
 
 returns-3 : tie.Need-returns-3
-returns-3 c = write-whole _ _ (c .before .before .before .before .before .before .before .before .check-table .ensures) _ (c .before .before .before .before .before .before .enum-told .given .1) _ (c .before .before .before .before .before .text-width .ensures) (c .before .before .before .before .if1 .left) _ _ (c .before .before .put-table .ensures)
+returns-3 c =
+    let room = c .before .before .before .before in
+    write-whole _ _ (room .before .before .before .before .check-table .ensures) _ (room .before .before .enum-told .given .1)
+    _ (room .before .text-width .ensures) (room .if1 .left) _ _ (c .before .before .put-table .ensures)
 
 pub write-table-spec : {M : Type 1} → statement M
 write-table-spec =

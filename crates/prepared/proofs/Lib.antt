@@ -1,0 +1,4 @@
+pub mod Stored
+pub mod Walks
+pub mod Edges
+pub mod Pairs

@@ -1,0 +1,245 @@
+// The prepared table: lookups in the rows of an accepted table, by an index of what follows from them. Each answers as the model's definition.
+ghost use mathlib.Core.Path.{_≡_};
+ghost use Prim.Native.Nat.{_+_, _<_, _≤_};
+ghost use lib.ListN.{length};
+ghost use Rattle.model.specs.Tables.{safe, hasEdge, isStart, known};
+ghost use Rattle.model.specs.Rules.{stopOf};
+ghost use lib.Dec.{T, ltb};
+ghost use Rattle.model.specs.Tests.{sameBool};
+ghost use Rattle.prepared.specs.Prepared.{tableIn, beginOf, endOf, actsAt, edgesAt, small, slotIn, Prepared, conflict};
+use model::Place;
+
+// How many numbers an index takes.
+pub const INDEX: usize = 1176;
+
+// Where each part of the index begins: thread-safe codels, the ends of each codel's edges, the beginnings and ends of the mutex rows of
+// each smaller codel, the starts and stops of activities, the ends of each task's activities.
+pub const SAFE: usize = 8;
+
+pub const EDGES: usize = 264;
+
+pub const PAIRS_FROM: usize = 520;
+
+pub const PAIRS_END: usize = 776;
+
+pub const STARTS: usize = 1032;
+
+pub const STOPS: usize = 1096;
+
+pub const ACTS: usize = 1160;
+
+// An activity without stop.
+pub const NO_STOP: u32 = 256;
+
+// Where the rows of each kind begin, three numbers a row; those of the tasks begin at 0.
+const ACT_ROWS: usize = 48;
+
+const CODEL_ROWS: usize = 240;
+
+const EDGE_ROWS: usize = 1008;
+
+const MUTEX_ROWS: usize = 2544;
+
+// `ether` among the stored numbers.
+const ETHER_SLOT: u32 = 4294967295;
+
+fn size(x: u32) -> usize
+    ensures { λ r. ⌜ r ≡ x ⌝ }
+{
+    x as usize
+}
+
+fn wide(x: u32) -> u64
+    ensures { λ r. ⌜ r ≡ x ⌝ }
+{
+    x as u64
+}
+
+// How many tasks there are.
+pub fn tasks(rows: &[u32], index: &[u32]) -> usize
+    requires { ⌜ Prepared (now rows) (now index) ⌝ }
+    ensures { λ r. ⌜ r ≡ tableIn (now (rows .entry)) (now (index .entry)) .ntasks ⌝ }
+{
+    size(index[0])
+}
+
+// How many activities there are.
+pub fn acts(rows: &[u32], index: &[u32]) -> usize
+    requires { ⌜ Prepared (now rows) (now index) ⌝ }
+    ensures { λ r. ⌜ r ≡ tableIn (now (rows .entry)) (now (index .entry)) .nacts ⌝ }
+{
+    size(index[1])
+}
+
+// How many codels there are.
+pub fn codels(rows: &[u32], index: &[u32]) -> usize
+    requires { ⌜ Prepared (now rows) (now index) ⌝ }
+    ensures { λ r. ⌜ r ≡ tableIn (now (rows .entry)) (now (index .entry)) .ncodels ⌝ }
+{
+    size(index[2])
+}
+
+// A task's period.
+pub fn period_of(rows: &[u32], index: &[u32], t: usize) -> u64
+    requires { ⌜ Prepared (now rows) (now index) × (t < tableIn (now rows) (now index) .ntasks) ⌝ }
+    ensures { λ r. ⌜ r ≡ tableIn (now (rows .entry)) (now (index .entry)) .period t ⌝ }
+{
+    wide(rows[3 * t])
+}
+
+// A task's keep.
+pub fn keep_of(rows: &[u32], index: &[u32], t: usize) -> u64
+    requires { ⌜ Prepared (now rows) (now index) × (t < tableIn (now rows) (now index) .ntasks) ⌝ }
+    ensures { λ r. ⌜ r ≡ tableIn (now (rows .entry)) (now (index .entry)) .keep t ⌝ }
+{
+    wide(rows[3 * t + 1])
+}
+
+// An activity's task.
+pub fn task_of(rows: &[u32], index: &[u32], a: usize) -> usize
+    requires { ⌜ Prepared (now rows) (now index) × (a < tableIn (now rows) (now index) .nacts) ⌝ }
+    ensures { λ r. ⌜ r ≡ tableIn (now (rows .entry)) (now (index .entry)) .task a ⌝ }
+{
+    size(rows[ACT_ROWS + 3 * a])
+}
+
+// A codel's activity.
+pub fn owner_of(rows: &[u32], index: &[u32], c: usize) -> usize
+    requires { ⌜ Prepared (now rows) (now index) × (c < tableIn (now rows) (now index) .ncodels) ⌝ }
+    ensures { λ r. ⌜ r ≡ tableIn (now (rows .entry)) (now (index .entry)) .owner c ⌝ }
+{
+    size(rows[CODEL_ROWS + 3 * c])
+}
+
+// A codel's limit.
+pub fn limit_of(rows: &[u32], index: &[u32], c: usize) -> u64
+    requires { ⌜ Prepared (now rows) (now index) × (c < tableIn (now rows) (now index) .ncodels) ⌝ }
+    ensures { λ r. ⌜ r ≡ tableIn (now (rows .entry)) (now (index .entry)) .limit c ⌝ }
+{
+    wide(rows[CODEL_ROWS + 3 * c + 2])
+}
+
+// Is a codel thread safe?
+pub fn is_safe(rows: &[u32], index: &[u32], c: usize) -> bool
+    requires { ⌜ Prepared (now rows) (now index) × (c < tableIn (now rows) (now index) .ncodels) ⌝ }
+    ensures { λ r. ⌜ r ≡ safe (tableIn (now (rows .entry)) (now (index .entry))) c ⌝ }
+{
+    index[SAFE + c] == 1
+}
+
+// Is a codel an activity's start?
+pub fn is_start(rows: &[u32], index: &[u32], a: usize, c: usize) -> bool
+    requires { ⌜ Prepared (now rows) (now index) × (a < tableIn (now rows) (now index) .nacts) × (c < tableIn (now rows) (now index) .ncodels) ⌝ }
+    ensures { λ r. ⌜ r ≡ isStart (tableIn (now (rows .entry)) (now (index .entry))) a c ⌝ }
+{
+    c == size(index[STARTS + a])
+}
+
+// An activity's stop codel, or ether where it has none.
+pub fn stop_of(rows: &[u32], index: &[u32], a: usize) -> Place
+    requires { ⌜ Prepared (now rows) (now index) × (a < tableIn (now rows) (now index) .nacts) ⌝ }
+    ensures { λ r. ⌜ r ≡ stopOf (tableIn (now (rows .entry)) (now (index .entry))) a ⌝ }
+{
+    let c = index[STOPS + a];
+    if c == NO_STOP {
+        return Place::Ether;
+    }
+    Place::Codel(size(c))
+}
+
+// Where a task's activities begin.
+pub fn acts_begin(rows: &[u32], index: &[u32], t: usize) -> usize
+    requires { ⌜ Prepared (now rows) (now index) × (t < tableIn (now rows) (now index) .ntasks) ⌝ }
+    ensures { λ r. ⌜ r ≡ beginOf (now (index .entry)) actsAt t ⌝ }
+{
+    if t == 0 {
+        return 0;
+    }
+    size(index[ACTS + (t - 1)])
+}
+
+// Where a task's activities end.
+pub fn acts_end(rows: &[u32], index: &[u32], t: usize) -> usize
+    requires { ⌜ Prepared (now rows) (now index) × (t < tableIn (now rows) (now index) .ntasks) ⌝ }
+    ensures { λ r. ⌜ r ≡ endOf (now (index .entry)) actsAt t ⌝ }
+{
+    size(index[ACTS + t])
+}
+
+// A place as a stored target.
+fn target_slot(p: Place) -> u32
+    requires { ⌜ T (small p) ⌝ }
+    ensures { λ r. ⌜ r ≡ slotIn p ⌝ }
+{
+    match p {
+        Place::Ether => ETHER_SLOT,
+        Place::Codel(c) => c as u32,
+    }
+}
+
+// Is this stored mode a pause, or not?
+fn is_mode(x: u32, pause: bool) -> bool
+    ensures { λ r. ⌜ r ≡ sameBool (ltb 0 x) pause ⌝ }
+{
+    if pause {
+        return 0 < x;
+    }
+    x == 0
+}
+
+// Where a codel's edges begin.
+fn edges_begin(index: &[u32], c: usize) -> usize
+    requires { ⌜ edgesAt + c < length (now index) ⌝ }
+    ensures { λ r. ⌜ r ≡ beginOf (now (index .entry)) edgesAt c ⌝ }
+{
+    if c == 0 {
+        return 0;
+    }
+    size(index[EDGES + (c - 1)])
+}
+
+// Is there an edge of that mode from a codel to a place?
+pub fn has_edge(rows: &[u32], index: &[u32], c: usize, p: Place, pause: bool) -> bool
+    requires { ⌜ Prepared (now rows) (now index) × (c < tableIn (now rows) (now index) .ncodels) × T (known (tableIn (now rows) (now index)) p) ⌝ }
+    ensures { λ r. ⌜ r ≡ hasEdge (tableIn (now (rows .entry)) (now (index .entry))) c p pause ⌝ }
+{
+    let target = target_slot(p);
+    let end = size(index[EDGES + c]);
+    let mut e = edges_begin(index, c);
+    while e < end {
+        if rows[EDGE_ROWS + 3 * e + 1] == target {
+            if is_mode(rows[EDGE_ROWS + 3 * e + 2], pause) {
+                return true;
+            }
+        }
+        e += 1;
+    }
+    false
+}
+
+// Do two codels conflict?
+pub fn in_conflict(rows: &[u32], index: &[u32], c: usize, d: usize) -> bool
+    requires { ⌜ Prepared (now rows) (now index) × (c < tableIn (now rows) (now index) .ncodels) × (d < tableIn (now rows) (now index) .ncodels) ⌝ }
+    ensures { λ r. ⌜ r ≡ conflict (tableIn (now (rows .entry)) (now (index .entry))) c d ⌝ }
+{
+    if d < c {
+        return has_pair(rows, index, d, c);
+    }
+    has_pair(rows, index, c, d)
+}
+
+// Is there a mutex row of the two codels, the smaller first?
+fn has_pair(rows: &[u32], index: &[u32], lo: usize, hi: usize) -> bool
+    requires { ⌜ Prepared (now rows) (now index) × (lo < tableIn (now rows) (now index) .ncodels) × (hi < tableIn (now rows) (now index) .ncodels) × (lo ≤ hi) ⌝ }
+    ensures { λ r. ⌜ r ≡ conflict (tableIn (now (rows .entry)) (now (index .entry))) lo hi ⌝ }
+{
+    let end = size(index[PAIRS_END + lo]);
+    let mut m = size(index[PAIRS_FROM + lo]);
+    while m < end {
+        if size(rows[MUTEX_ROWS + 3 * m + 1]) == hi {
+            return true;
+        }
+        m += 1;
+    }
+    false
+}

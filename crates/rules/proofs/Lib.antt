@@ -1,0 +1,4 @@
+pub mod Answers
+pub mod Places
+pub mod Named
+pub mod Steps

@@ -1,0 +1,34 @@
+-- `do_st` meets its contract.
+use borrow.Author.Needs.{needs}
+use Rattle.rules.proofs.Answers.{answers}
+use Rattle.rules.proofs.do_st.Statement.{statement}
+use Rattle.rules.proofs.do_st.Tie as tie
+
+period-of-requires : tie.Need-period-of-requires
+period-of-requires c κs = search needs
+
+refused-requires : tie.Need-refused-requires
+refused-requires c κs = search needs
+
+returns : tie.Need-returns
+returns c = search answers
+
+fired-requires : tie.Need-fired-requires
+fired-requires c κs = search needs
+
+refused-requires-2 : tie.Need-refused-requires-2
+refused-requires-2 c κs = search needs
+
+returns-2 : tie.Need-returns-2
+returns-2 c = search answers
+
+pub do-st-spec : {M : Type 1} → statement M
+do-st-spec =
+    tie.close
+    (tie.spec
+    period-of-requires
+    refused-requires
+    returns
+    fired-requires
+    refused-requires-2
+    returns-2)

@@ -1,0 +1,19 @@
+-- `is_held` meets its contract.
+use borrow.Author.Needs.{needs}
+use Rattle.rules.proofs.is_held.Statement.{statement}
+use Rattle.rules.proofs.is_held.Tie as tie
+
+enum-told : tie.Need-enum-told
+enum-told c = search needs
+
+enum-known-h : tie.Need-enum-known-h
+enum-known-h c = search needs
+
+returns : tie.Need-returns
+returns c = search needs
+
+returns-2 : tie.Need-returns-2
+returns-2 c = cc
+
+pub is-held-spec : {M : Type 1} → statement M
+is-held-spec = tie.close (tie.spec enum-told enum-known-h returns returns-2)
