@@ -66,10 +66,8 @@ enum Verdict {
 // How many marks stand beside the rows while they are checked.
 const MARKS: usize = 401;
 
-// Where the marks of an activity's start, of its stop and of a codel's edge begin; the last mark is never asked for.
+// Where the marks of the activities' starts, then stops, and of the codels' edges begin; the last mark is never asked for.
 const STARTS: usize = 16;
-
-const STOPS: usize = 80;
 
 const EDGES: usize = 144;
 

@@ -10,9 +10,7 @@ use table::Wrote;
 use text::Field;
 use text::Word;
 
-// How much standard input is read, and how much room there is for a text written again.
-const INPUT: usize = 65536;
-
+// How much room there is for a text written again.
 const TEXT: usize = 32768;
 
 // Writes the first n bytes.
