@@ -44,7 +44,7 @@ tens-from (suc m) w (suc k) h = let e : w + suc k ≡ suc w + k = omega arith in
 pub tens-at : (m k : ℕ) → k < m → getD (tens m 0) k 0 ≡ 10 ^ k
 tens-at m k h = let e : 0 + k ≡ k = omega arith in rw e at (tens-from m 0 k h)
 
--- is there room?
+-- whether there is room
 module _ (have at many : ℕ) where
   -- a place past the end has no room
   pub fits-past : have < at → false ≡ leb (at + many) have
