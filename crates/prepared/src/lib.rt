@@ -32,13 +32,13 @@ pub const ACTS: usize = 1160;
 pub const NO_STOP: u32 = 256;
 
 // Where the rows of each kind begin, three numbers a row; those of the tasks begin at 0.
-const ACT_ROWS: usize = 48;
+pub const ACT_ROWS: usize = 48;
 
-const CODEL_ROWS: usize = 240;
+pub const CODEL_ROWS: usize = 240;
 
-const EDGE_ROWS: usize = 1008;
+pub const EDGE_ROWS: usize = 1008;
 
-const MUTEX_ROWS: usize = 2544;
+pub const MUTEX_ROWS: usize = 2544;
 
 // `ether` among the stored numbers.
 const ETHER_SLOT: u32 = 4294967295;

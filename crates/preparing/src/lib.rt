@@ -13,15 +13,6 @@ ghost use Rattle.preparing.specs.Filling.{filled, ended, kindPlace, kind
 use prepared::INDEX;
 use table::Table;
 
-// Where the rows of each kind begin, three numbers a row.
-const ACT_ROWS: usize = 48;
-
-const CODEL_ROWS: usize = 240;
-
-const EDGE_ROWS: usize = 1008;
-
-const MUTEX_ROWS: usize = 2544;
-
 // Where a codel that is neither start nor stop is noted.
 const NOWHERE: usize = 7;
 
@@ -77,8 +68,8 @@ fn note_kinds(rows: &[u32], counts: [usize; 5], index: &mut [u32])
 {
     let mut c = 0;
     while c < counts[2] {
-        let a = size(rows[CODEL_ROWS + 3 * c]);
-        let p = kind_place(rows[CODEL_ROWS + 3 * c + 1], a);
+        let a = size(rows[prepared::CODEL_ROWS + 3 * c]);
+        let p = kind_place(rows[prepared::CODEL_ROWS + 3 * c + 1], a);
         index[p] = c as u32;
         c += 1;
     }
@@ -118,8 +109,8 @@ fn note_pairs(rows: &[u32], counts: [usize; 5], index: &mut [u32])
 {
     let mut m = 0;
     while m < counts[4] {
-        let lo = size(rows[MUTEX_ROWS + 3 * m]);
-        let hi = size(rows[MUTEX_ROWS + 3 * m + 1]);
+        let lo = size(rows[prepared::MUTEX_ROWS + 3 * m]);
+        let hi = size(rows[prepared::MUTEX_ROWS + 3 * m + 1]);
         note_pair(index, m, lo, hi);
         m += 1;
     }
@@ -148,8 +139,20 @@ pub fn index_of(t: Table) -> [u32; INDEX]
     note_counts(counts, &mut index);
     fill(&mut index, prepared::SAFE, 1, 256);
     fill(&mut index, prepared::STOPS, prepared::NO_STOP, 64);
-    note_ends(&rows, EDGE_ROWS, counts[3], &mut index, prepared::EDGES);
-    note_ends(&rows, ACT_ROWS, counts[1], &mut index, prepared::ACTS);
+    note_ends(
+        &rows,
+        prepared::EDGE_ROWS,
+        counts[3],
+        &mut index,
+        prepared::EDGES,
+    );
+    note_ends(
+        &rows,
+        prepared::ACT_ROWS,
+        counts[1],
+        &mut index,
+        prepared::ACTS,
+    );
     note_kinds(&rows, counts, &mut index);
     note_pairs(&rows, counts, &mut index);
     index
