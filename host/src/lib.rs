@@ -4,8 +4,10 @@ use std::io::Write;
 use std::path::PathBuf;
 use std::process::{Command, Stdio};
 
+pub mod model;
 pub mod table;
 pub mod text;
+pub mod walk;
 
 /// The repository's folder.
 pub fn repository() -> PathBuf {
