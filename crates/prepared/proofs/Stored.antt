@@ -1,5 +1,5 @@
 -- Where the numbers of a prepared table stand, and that each is what the table says.
-use Prim.Native.Nat.{ℕ, zero, suc, _+_, _-_, _*_, _≤_, _<_}
+use Prim.Native.Nat.{ℕ, zero, suc, _+_, _-_, _*_, _≤_, _<_, min}
 use mathlib.Core.Bool.{Bool, true, false}
 use mathlib.Core.List.{List}
 use mathlib.Core.Path.{_≡_, refl, sym, ap, _∙_}
@@ -8,17 +8,19 @@ use lib.ListN.{getD, take}
 use lib.Seq.{getD-take}
 use lib.Dec.{eqb}
 use borrow.Author.Tests.{lt-ltb, eq-eqb, ne-eqb}
+use mir.Syntax.{w32}
+use mir.Val.{Fits}
 use Rattle.text.specs.Parts.{pick}
 use Rattle.row.specs.Kinds.{mostOf, fieldsOf, formOf, aNumber}
 use Rattle.row.specs.Row.{etherValue}
-use Rattle.table.specs.Tables.{baseOf, slotOf, etherSlot, widened, shown, fieldOf, tableOf}
+use Rattle.table.specs.Tables.{baseOf, slotOf, etherSlot, widened, shown, fieldOf, targetOf, tableOf}
 use Rattle.model.specs.Limits.{mostTasks, mostActs, mostCodels, mostEdges, mostMutexes, mostTicks}
 use Rattle.model.specs.Tables.{isStart}
 use Rattle.model.specs.Rules.{stopOf}
 use Rattle.model.specs.declared.Place.the-variants.{Ether, Codel}
 use Rattle.model.proofs.Tests.{true-T}
 use Rattle.model.proofs.Formed.{Formed, formed}
-use Rattle.prepared.specs.Prepared.{tableIn, beginOf, endOf, edgesAt, pairsEndAt, startsAt, stopsAt, noStop, Prepared}
+use Rattle.prepared.specs.Prepared.{tableIn, beginOf, endOf, edgesAt, pairsEndAt, startsAt, stopsAt, noStop, Prepared, pauseOf}
 
 -- a count
 pub count-at : (index : List ℕ) (k x : ℕ) → k < 5 → x ≡ getD index k 0 → x ≡ getD (take 5 index) k 0
@@ -66,7 +68,7 @@ module _ {rows index : List ℕ} (P : Prepared rows index) where
   pub most-mutexes : tableIn rows index .nmutex ≤ mostMutexes
   most-mutexes = shape .fits .4
 
-  -- the numbers of a task's row, an activity's and a codel's
+  -- the numbers of a task's row, an activity's, a codel's and a mutex row's
   pub period-at : (t x : ℕ) → t < tableIn rows index .ntasks → x ≡ getD rows (3 * t) 0 → x ≡ tableIn rows index .period t
   unfolding tableOf mostOf fieldsOf formOf baseOf
   period-at t x h = number-at rows 0 t 0 (3 * t) x (omega (arith, most-tasks)) (omega arith) refl (shape .periodHigh t h)
@@ -86,6 +88,37 @@ module _ {rows index : List ℕ} (P : Prepared rows index) where
   pub limit-at : (c x : ℕ) → c < tableIn rows index .ncodels → x ≡ getD rows (240 + 3 * c + 2) 0 → x ≡ tableIn rows index .limit c
   unfolding tableOf mostOf fieldsOf formOf baseOf
   limit-at c x h = number-at rows 2 c 2 (240 + 3 * c + 2) x (omega (arith, most-codels)) (omega arith) refl (shape .limitHigh c h)
+
+  pub lower-at : (m x : ℕ) → m < tableIn rows index .nmutex → x ≡ getD rows (2544 + 3 * m) 0 → x ≡ tableIn rows index .mutex m .lo
+  unfolding tableOf mostOf fieldsOf formOf baseOf
+  lower-at m x h = number-at rows 4 m 0 (2544 + 3 * m) x (omega (arith, most-mutexes)) (omega arith) refl (omega (arith, most-codels, shape .mutex m h .0))
+
+  pub upper-at : (m x : ℕ) → m < tableIn rows index .nmutex → x ≡ getD rows (2544 + 3 * m + 1) 0 → x ≡ tableIn rows index .mutex m .hi
+  unfolding tableOf mostOf fieldsOf formOf baseOf
+  upper-at m x h = number-at rows 4 m 1 (2544 + 3 * m + 1) x (omega (arith, most-mutexes)) (omega arith) refl (omega (arith, most-codels, shape .mutex m h .1))
+
+  -- where an edge pauses, by its stored target and mode
+  module _ (e : ℕ) (h : e < tableIn rows index .nedges) where
+    stored-pause : pauseOf (tableIn rows index .edge e) ≡ pick (eqb (min (getD rows (1008 + 3 * e + 2) 0) 1) 1) (targetOf (widened (getD rows (1008 + 3 * e + 1) 0))) Ether
+    unfolding tableOf mostOf fieldsOf formOf baseOf shown
+    stored-pause =
+        let l : e < 512 = omega (arith, most-edges) in
+        rw (field-at rows 3 e 1 (1008 + 3 * e + 1) l (omega arith), field-at rows 3 e 2 (1008 + 3 * e + 2) l (omega arith))
+
+    pub pause-none : getD rows (1008 + 3 * e + 2) 0 ≡ 0 → Ether ≡ pauseOf (tableIn rows index .edge e)
+    pause-none z = rw (stored-pause, z)
+
+    module _ (m : getD rows (1008 + 3 * e + 2) 0 ≡ 0 → ⊥) where
+      pauses : eqb (min (getD rows (1008 + 3 * e + 2) 0) 1) 1 ≡ true
+      pauses = eq-eqb (min (getD rows (1008 + 3 * e + 2) 0) 1) 1 (omega arith)
+
+      pub pause-ether : getD rows (1008 + 3 * e + 1) 0 ≡ etherSlot → Ether ≡ pauseOf (tableIn rows index .edge e)
+      unfolding widened
+      pause-ether t = rw (stored-pause, pauses, t)
+
+      pub pause-codel : (x : ℕ) → ((i : ℕ) → Fits w32 (getD rows i 0)) → (getD rows (1008 + 3 * e + 1) 0 ≡ etherSlot → ⊥) → x ≡ getD rows (1008 + 3 * e + 1) 0 → Codel x ≡ pauseOf (tableIn rows index .edge e)
+      unfolding widened
+      pause-codel x bits n q = rw (stored-pause, pauses, ne-eqb _ etherSlot n, ne-eqb (getD rows (1008 + 3 * e + 1) 0) etherValue (omega (arith, bits (1008 + 3 * e + 1) .fits)), q)
 
   -- the edges and the mutex rows of a codel end where there is still room
   module _ (c end : ℕ) (h : c < tableIn rows index .ncodels) where

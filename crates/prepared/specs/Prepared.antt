@@ -8,7 +8,7 @@ use lib.Dec.{eqb, ltb}
 use Rattle.text.specs.Parts.{pick}
 use Rattle.table.specs.Tables.{slots, made, tableOf, etherSlot}
 use Rattle.model.specs.Tests.{_and_, _or_, some}
-use Rattle.model.specs.Tables.{Table, isStart, safe}
+use Rattle.model.specs.Tables.{Table, EdgeRow, isStart, safe}
 use Rattle.model.specs.Rows.{wellformed}
 use Rattle.model.specs.Rules.{stopOf}
 use Rattle.model.specs.declared.Place.{Place}
@@ -94,3 +94,7 @@ slotIn (Codel c) = c
 -- codels c and d are a mutex row, either way round
 unfoldable pub conflict : Table → ℕ → ℕ → Bool
 conflict K c d = some (K .nmutex) (λ m. (eqb (K .mutex m .lo) c and eqb (K .mutex m .hi) d) or (eqb (K .mutex m .lo) d and eqb (K .mutex m .hi) c))
+
+-- where an edge pauses: its target, or ether where it is no pause
+abbrev pub pauseOf : EdgeRow → Place
+pauseOf r = pick (r .pause) (r .target) Ether

@@ -6,7 +6,7 @@ ghost use Rattle.model.specs.Tables.{safe, hasEdge, isStart, known};
 ghost use Rattle.model.specs.Rules.{stopOf};
 ghost use lib.Dec.{T, ltb};
 ghost use Rattle.model.specs.Tests.{sameBool};
-ghost use Rattle.prepared.specs.Prepared.{tableIn, beginOf, endOf, actsAt, edgesAt, small, slotIn, Prepared, conflict};
+ghost use Rattle.prepared.specs.Prepared.{tableIn, beginOf, endOf, actsAt, edgesAt, small, slotIn, pauseOf, Prepared, conflict};
 use model::Place;
 
 // How many numbers an index takes.
@@ -77,6 +77,22 @@ pub fn codels(rows: &[u32], index: &[u32]) -> usize
     ensures { λ r. ⌜ r ≡ tableIn (now (rows .entry)) (now (index .entry)) .ncodels ⌝ }
 {
     size(index[2])
+}
+
+// How many edges there are.
+pub fn edge_count(rows: &[u32], index: &[u32]) -> usize
+    requires { ⌜ Prepared (now rows) (now index) ⌝ }
+    ensures { λ r. ⌜ r ≡ tableIn (now (rows .entry)) (now (index .entry)) .nedges ⌝ }
+{
+    size(index[3])
+}
+
+// How many mutex rows there are.
+pub fn mutex_count(rows: &[u32], index: &[u32]) -> usize
+    requires { ⌜ Prepared (now rows) (now index) ⌝ }
+    ensures { λ r. ⌜ r ≡ tableIn (now (rows .entry)) (now (index .entry)) .nmutex ⌝ }
+{
+    size(index[4])
 }
 
 // A task's period.
@@ -164,6 +180,37 @@ pub fn acts_end(rows: &[u32], index: &[u32], t: usize) -> usize
     ensures { λ r. ⌜ r ≡ endOf (now (index .entry)) actsAt t ⌝ }
 {
     size(index[ACTS + t])
+}
+
+// Where an edge pauses: its target, or ether where it is no pause.
+pub fn pause_of(rows: &[u32], index: &[u32], e: usize) -> Place
+    requires { ⌜ Prepared (now rows) (now index) × (e < tableIn (now rows) (now index) .nedges) ⌝ }
+    ensures { λ r. ⌜ r ≡ pauseOf (tableIn (now (rows .entry)) (now (index .entry)) .edge e) ⌝ }
+{
+    if rows[EDGE_ROWS + 3 * e + 2] == 0 {
+        return Place::Ether;
+    }
+    let target = rows[EDGE_ROWS + 3 * e + 1];
+    if target == ETHER_SLOT {
+        return Place::Ether;
+    }
+    Place::Codel(size(target))
+}
+
+// The smaller codel of a mutex row.
+pub fn lower_of(rows: &[u32], index: &[u32], m: usize) -> usize
+    requires { ⌜ Prepared (now rows) (now index) × (m < tableIn (now rows) (now index) .nmutex) ⌝ }
+    ensures { λ r. ⌜ r ≡ tableIn (now (rows .entry)) (now (index .entry)) .mutex m .lo ⌝ }
+{
+    size(rows[MUTEX_ROWS + 3 * m])
+}
+
+// The larger codel of a mutex row.
+pub fn upper_of(rows: &[u32], index: &[u32], m: usize) -> usize
+    requires { ⌜ Prepared (now rows) (now index) × (m < tableIn (now rows) (now index) .nmutex) ⌝ }
+    ensures { λ r. ⌜ r ≡ tableIn (now (rows .entry)) (now (index .entry)) .mutex m .hi ⌝ }
+{
+    size(rows[MUTEX_ROWS + 3 * m + 1])
 }
 
 // A place as a stored target.

@@ -132,7 +132,8 @@ fn refused(n: u64, x: Task, y: Act) -> Told
     }
 }
 
-fn is_held(h: Holder, a: usize) -> bool
+// Does an activity hold?
+pub fn is_held(h: Holder, a: usize) -> bool
     ensures { λ r. ⌜ r ≡ heldBy h a ⌝ }
 {
     match h {
@@ -151,7 +152,8 @@ fn may_run(h: Holder, a: usize, halt: bool) -> bool
     false
 }
 
-fn is_manager(h: Holder) -> bool
+// Does the manager hold?
+pub fn is_manager(h: Holder) -> bool
     ensures { λ r. ⌜ r ≡ byManager h ⌝ }
 {
     match h {
@@ -193,7 +195,8 @@ fn do_lm(rows: &[u32], index: &[u32], t: usize, a: usize, x: Task, y: Act) -> To
     refused(0, u, v)
 }
 
-fn either(a: bool, b: bool) -> bool
+// One of the two, or both.
+pub fn either(a: bool, b: bool) -> bool
     ensures { λ r. ⌜ r ≡ a or b ⌝ }
 {
     if a {

@@ -1,0 +1,5 @@
+pub mod Parts
+pub mod Walks
+pub mod Marked
+pub mod Sentences
+pub mod Rooms

@@ -1,0 +1,125 @@
+-- The sentences on a sound state, by who holds and by the place where an activity is.
+use mathlib.Core.Bool.{Bool, true, false, not}
+use mathlib.Core.Path.{_≡_, _∙_}
+use Prim.Native.Nat.{ℕ, _≤_, _<_}
+use lib.Dec.{T, leb, ltb, eqb}
+use borrow.Author.Tests.{not-true, not-false}
+use Rattle.model.specs.Tests.{_and_, _or_, _implies_, each}
+use Rattle.model.specs.Limits.{mostTasks, mostActs}
+use Rattle.model.specs.Tables.{Table, isEther, known, safe}
+use Rattle.model.specs.States.{taskAt, actAt, heldBy, runs}
+use Rattle.model.specs.Sound.{atOwn, listedAtEther, safeAt, executesWhenSafe, clockOk, fine, fineAct, holderOk, apart, isFreshTask, isFreshAct, freshPast}
+use Rattle.model.specs.declared.Task.{Task}
+use Rattle.model.specs.declared.Act.{Act}
+use Rattle.model.specs.declared.State.{State}
+use Rattle.model.specs.declared.Place.{Place}
+use Rattle.model.specs.declared.Place.the-variants.{Ether, Codel}
+use Rattle.model.specs.declared.Holder.{Holder}
+use Rattle.model.specs.declared.Holder.the-variants.{Activity}
+use Rattle.model.proofs.Tests.{true-T, and-l}
+use Rattle.rules.proofs.Answers.{yes-by}
+use Rattle.soundness.proofs.Parts.{row-says, no-row}
+
+-- "the holder is the manager or one of the task's activities"
+module _ (K : Table) (t : ℕ) (h : Holder) (a n : ℕ) (e : h ≡ Activity a) (q : n ≡ K .nacts) where
+  pub holder-row : (x : ℕ) → a < n → x ≡ K .task a → eqb x t ≡ holderOk K t h
+  holder-row x l i = rw e (row-says n (K .nacts) a q (K .task a) x t l i)
+
+  pub holder-none : n ≤ a → false ≡ holderOk K t h
+  holder-none l = rw e (no-row n (K .nacts) a q _ l)
+
+-- "each activity at ether or a codel of its own"
+module _ (K : Table) (a : ℕ) (p : Place) (c n : ℕ) (e : p ≡ Codel c) (q : n ≡ K .ncodels) where
+  pub own-row : (x : ℕ) → c < n → x ≡ K .owner c → eqb x a ≡ atOwn K a p
+  own-row x l i = rw e (row-says n (K .ncodels) c q (K .owner c) x a l i)
+
+  pub own-none : n ≤ c → false ≡ atOwn K a p
+  own-none l = rw e (no-row n (K .ncodels) c q _ l)
+
+-- a place of one's own has a row
+pub own-known : (K : Table) (a : ℕ) (p : Place) (r : Bool) → r ≡ atOwn K a p → not r ≡ false → T (known K p)
+own-known K a p r e n = go p (true-T _ (yes-by r (atOwn K a p) e n))
+  where
+    go : (p : Place) → T (atOwn K a p) → T (known K p)
+    go Ether t = tt
+    go (Codel c) t = and-l (ltb c (K .ncodels)) _ t
+
+-- "a holder not in R at a thread-safe codel executes"
+module _ (K : Table) (h l : Bool) (p : Place) (e r : Bool) (q : r ≡ (h and not l)) where
+  safe-by : executesWhenSafe K h l p e ≡ (r and safeAt K p implies e)
+  safe-by = go r h (not l) (safeAt K p) q
+    where
+      go : (r a b s : Bool) → r ≡ (a and b) → (a and b and s implies e) ≡ (r and s implies e)
+      go r true b s i = rw i
+      go r false b s i = rw i
+
+  pub safe-idle : not r ≡ true → true ≡ executesWhenSafe K h l p e
+  safe-idle n = rw (safe-by, not-true r n)
+
+  module _ (n : not r ≡ false) where
+    pub safe-ether : p ≡ Ether → true ≡ executesWhenSafe K h l p e
+    safe-ether f = rw (safe-by, not-false r n, f)
+
+    pub safe-codel : (c : ℕ) (s z : Bool) → p ≡ Codel c → s ≡ safe K c → z ≡ (s implies e) → z ≡ executesWhenSafe K h l p e
+    safe-codel c s z f i w = rw (safe-by, not-false r n, f, ← i) w
+
+-- "an executing clock is at most the limit, every other clock is 0"
+module _ (K : Table) (p : Place) (e : Bool) (k : ℕ) where
+  pub clock-still : not e ≡ true → eqb k 0 ≡ clockOk K p e k
+  clock-still n = rw (not-true e n)
+
+  module _ (n : not e ≡ false) where
+    pub clock-ether : p ≡ Ether → false ≡ clockOk K p e k
+    clock-ether f = rw (not-false e n, f)
+
+    pub clock-codel : (c x : ℕ) → p ≡ Codel c → x ≡ K .limit c → leb k x ≡ clockOk K p e k
+    clock-codel c x f i = rw (not-false e n, f, i)
+
+-- "a holder at ether is in N or R"
+pub listed-by : (h n l : Bool) (p : Place) (i j b r : Bool) → i ≡ isEther p → j ≡ (h and i) → b ≡ (n or l) → r ≡ (j implies b) → r ≡ listedAtEther h n l p
+listed-by h n l p i j b r u v w z = rw (← u, ← v, ← w) z
+
+-- the sentences on an activity, by whether it holds
+pub fine-held : (K : Table) (a : ℕ) (x : Task) (y : Act) (h r : Bool) → h ≡ heldBy (x .holder) a → r ≡ fine K a (x .managing) h (y .run) (y .halt) (y .place) (y .executing) (y .clock) → r ≡ fineAct K a x y
+fine-held K a x y h r e q = rw (← e) q
+
+-- and by its task's record
+module _ (K : Table) (s : State) (a t : ℕ) (r : Bool) (e : t ≡ K .task a) (q : r ≡ fineAct K a (taskAt s t) (actAt s a)) where
+  pub act-fails : not r ≡ true → fineAct K a (taskAt s (K .task a)) (actAt s a) ≡ false
+  act-fails n = rw (← e, ← q) (not-true r n)
+
+  pub act-passes : not r ≡ false → fineAct K a (taskAt s (K .task a)) (actAt s a) ≡ true
+  act-passes n = rw (← e, ← q) (not-false r n)
+
+-- an activity executes a codel
+module _ (y : Act) (c : ℕ) where
+  pub run-still : not (y .executing) ≡ true → false ≡ runs y c
+  run-still n = rw (not-true (y .executing) n)
+
+  module _ (n : not (y .executing) ≡ false) where
+    pub run-ether : y .place ≡ Ether → false ≡ runs y c
+    run-ether f = rw (not-false (y .executing) n, f)
+
+    pub run-codel : (d : ℕ) → y .place ≡ Codel d → eqb d c ≡ runs y c
+    run-codel d f = rw (not-false (y .executing) n, f)
+
+-- "no executing conflict pair"
+module _ (K : Table) (s : State) (m c d a b : ℕ) (r : Bool) (lo : c ≡ K .mutex m .lo) (hi : d ≡ K .mutex m .hi) (A : a ≡ K .owner c) (B : b ≡ K .owner d) (R : r ≡ (runs (actAt s a) c and runs (actAt s b) d)) where
+  apart-by : apart K s m ≡ not r
+  apart-by = rw (← lo, ← hi, ← A, ← B, ← R)
+
+  pub pair-runs : r ≡ true → apart K s m ≡ false
+  pair-runs e = apart-by ∙ rw e
+
+  pub pair-apart : r ≡ false → apart K s m ≡ true
+  pair-apart e = apart-by ∙ rw e
+
+-- the rows past the table's counts
+module _ (K : Table) (s : State) (n : ℕ) (r : Bool) (e : n ≡ K .ntasks) (q : r ≡ each mostTasks (λ t. leb n t implies isFreshTask (taskAt s t))) where
+  pub past-fails : not r ≡ true → false ≡ freshPast K s
+  past-fails f = rw (← e, ← q, not-true r f)
+
+  pub past-acts : (m : ℕ) (z : Bool) → not r ≡ false → m ≡ K .nacts → z ≡ each mostActs (λ a. leb m a implies isFreshAct (actAt s a)) → z ≡ freshPast K s
+  past-acts m z f i w = rw (← e, ← q, not-false r f, ← i) w
+
+pub ruleset sentences = (holder-row, holder-none, own-row, own-none, own-known, safe-idle, safe-ether, safe-codel, clock-still, clock-ether, clock-codel, listed-by, run-still, run-ether, run-codel, past-fails, past-acts)

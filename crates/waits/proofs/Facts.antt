@@ -1,0 +1,116 @@
+-- What a sound state's rows say, also those past the counts, and that a well-formed table has the rows which a step names.
+use mathlib.Core.Bool.{Bool, true, false, not}
+use mathlib.Core.List.{List}
+use mathlib.Core.Path.{_≡_, subst⁻¹}
+use Prim.Native.Nat.{ℕ, _≤_, _<_}
+use native.Mathlib.Omega.{arith}
+use lib.Dec.{T, leb, ltb, eqb, leb→le, ltb→lt, eqb→eq}
+use lib.ListN.{length, getD, List·getD-eq-default}
+use Rattle.text.proofs.Picks.{order}
+use Rattle.model.specs.Tests.{_and_, each}
+use Rattle.model.specs.Limits.{mostTasks, mostActs, mostTicks, ceiling}
+use Rattle.model.specs.Tables.{Table, isEther, known}
+use Rattle.model.specs.Rows.{hasAct, hasStart, leaves, lastFault, taskFine, actFine, codelFine, edgeFine, mutexFine, wellformed}
+use Rattle.model.specs.States.{noTask, noAct, taskAt, actAt}
+use Rattle.model.specs.Sound.{atOwn, clockOk}
+use Rattle.model.specs.declared.State.{State}
+use Rattle.model.specs.declared.Place.{Place}
+use Rattle.model.specs.declared.Place.the-variants.{Ether, Codel}
+use Rattle.model.specs.declared.Step.{Step}
+use Rattle.model.specs.declared.Step.the-variants.{Wait, St, Sm, Lm, Ia, Ea, Cx, Fa, Fm}
+use Rattle.model.proofs.Tests.{true-T, and-l, and-r, each-at, some-at, need-of}
+use Rattle.model.proofs.Formed.{Formed, formed}
+use Rattle.model.proofs.Soundness.{Sound, fine-at, task-at}
+use Rattle.rules.specs.Local.{named, taskIn, actIn}
+
+-- an activity's own place is known
+own-known : (K : Table) (a : ℕ) (p : Place) → T (atOwn K a p) → T (known K p)
+own-known K a Ether t = tt
+own-known K a (Codel c) t = and-l (ltb c (K .ncodels)) _ t
+
+ether-known : (K : Table) (p : Place) → T (isEther p) → T (known K p)
+ether-known K Ether t = tt
+ether-known K (Codel c) t = absurd t
+
+-- what holds of each row of the table, of each one past the count and of none holds of every row
+row-cases : {A : Type 0} (Q : A → Type 0) (l : List A) (d : A) (n m i : ℕ) → length l ≡ m → Q d → (i < n → Q (getD l i d)) → (n ≤ i → i < m → Q (getD l i d)) → Q (getD l i d)
+row-cases Q l d n m i e none row past = order i n row (λ k. order i m (past k) (λ h. subst⁻¹ Q (List·getD-eq-default l d (omega arith)) none))
+
+module _ (K : Table) (s : State) (S : Sound K s) where
+  -- every activity is at ether or at a codel that has a row
+  pub place-known : (a : ℕ) → T (known K (actAt s a .place))
+  place-known a =
+      row-cases (λ y. T (known K (y .place))) (s .acts) noAct (K .nacts) mostActs a (S .shape .acts) tt
+      (λ h. own-known K a (actAt s a .place) (fine-at K s S a h .own))
+      (λ l h. ether-known K (actAt s a .place) (and-l (isEther (actAt s a .place)) _ (S .restA a l h)))
+
+  -- missed fits, and so do timers and clocks
+  pub missed-fits : (t : ℕ) → t < K .ntasks → taskAt s t .missed ≤ ceiling
+  missed-fits t h = omega (arith, task-at K s S t h .counts, S .date)
+
+module _ (K : Table) (F : Formed K) (s : State) (S : Sound K s) where
+  pub timer-fits : (t : ℕ) → taskAt s t .timer ≤ mostTicks
+  timer-fits t =
+      row-cases (λ x. x .timer ≤ mostTicks) (s .tasks) noTask (K .ntasks) mostTasks t (S .shape .tasks) (omega arith)
+      (λ h. omega (arith, task-at K s S t h .timer, F .periodHigh t h))
+      (λ l h. omega (arith, eqb→eq (taskAt s t .timer) 0 (and-l (eqb (taskAt s t .timer) 0) _ (S .restT t l h))))
+
+  pub clock-fits : (a : ℕ) → actAt s a .clock ≤ mostTicks
+  clock-fits a =
+      let y = actAt s a in
+      row-cases (λ y. y .clock ≤ mostTicks) (s .acts) noAct (K .nacts) mostActs a (S .shape .acts) (omega arith)
+      (λ h. small (y .place) (y .executing) (y .clock) (fine-at K s S a h .own) (fine-at K s S a h .clock))
+      (λ l h. omega (arith, eqb→eq (y .clock) 0 (and-l (eqb (y .clock) 0) _ (and-r (not (y .executing)) _ (and-r (isEther (y .place)) _ (S .restA a l h))))))
+    where
+      small : (p : Place) (e : Bool) (k : ℕ) → T (atOwn K a p) → T (clockOk K p e k) → k ≤ mostTicks
+      small p false k o t = omega (arith, eqb→eq k 0 t)
+      small Ether true k o t = absurd t
+      small (Codel c) true k o t = omega (arith, leb→le k (K .limit c) t, F .limitHigh c (ltb→lt c (K .ncodels) (and-l (ltb c (K .ncodels)) _ o)))
+
+-- the rows of a well-formed table
+module _ (K : Table) (wf : wellformed K ≡ true) where
+  -- rule 7 at the last row: there is a task, and each has an activity
+  last : T (leb 1 (K .ntasks) and each (K .ntasks) (hasAct K) and each (K .nacts) (hasStart K) and each (K .ncodels) (leaves K))
+  unfolding wellformed lastFault
+  last =
+      let act = and-r (each (K .ntasks) (taskFine K)) _ (true-T _ wf) in
+      let codel = and-r (each (K .nacts) (actFine K)) _ act in
+      let edge = and-r (each (K .ncodels) (codelFine K)) _ codel in
+      let mutex = and-r (each (K .nedges) (edgeFine K)) _ edge in
+      need-of (leb 1 (K .ntasks) and each (K .ntasks) (hasAct K) and each (K .nacts) (hasStart K) and each (K .ncodels) (leaves K)) 7 0 tt (eqb→eq (lastFault K) 0 (and-r (each (K .nmutex) (mutexFine K)) _ mutex)) .0
+
+  pub some-task : 0 < K .ntasks
+  some-task = leb→le 1 (K .ntasks) (and-l (leb 1 (K .ntasks)) _ last)
+
+  pub act-of : (t : ℕ) → t < K .ntasks → (a : ℕ) × (a < K .nacts) × (K .task a ≡ t)
+  act-of t h =
+      let w = some-at (λ a. eqb (K .task a) t) (K .nacts) (each-at (hasAct K) (K .ntasks) (and-l (each (K .ntasks) (hasAct K)) _ (and-r (leb 1 (K .ntasks)) _ last)) t h) in
+      (w .0, w .1, eqb→eq _ _ (w .2))
+
+  pub some-act : 0 < K .nacts
+  some-act = omega (arith, act-of 0 some-task .1)
+
+  -- a step's task and activity have rows
+  pub act-in : (x : Step) → T (named K x) → actIn x < K .nacts
+  unfolding named
+  act-in (Wait d) h = some-act
+  act-in (St t) h = some-act
+  act-in (Sm t n r) h = some-act
+  act-in (Lm t a) h = ltb→lt _ _ (and-r (ltb t (K .ntasks)) _ h)
+  act-in (Ia a) h = ltb→lt _ _ h
+  act-in (Ea a c) h = ltb→lt _ _ (and-l (ltb a (K .nacts)) _ h)
+  act-in (Cx a) h = ltb→lt _ _ h
+  act-in (Fa a p) h = ltb→lt _ _ (and-l (ltb a (K .nacts)) _ h)
+  act-in (Fm t) h = some-act
+
+  pub task-in : (x : Step) → T (named K x) → taskIn K x < K .ntasks
+  unfolding named
+  task-in (Wait d) h = some-task
+  task-in (St t) h = ltb→lt _ _ h
+  task-in (Sm t n r) h = ltb→lt _ _ h
+  task-in (Lm t a) h = ltb→lt _ _ (and-l (ltb t (K .ntasks)) _ h)
+  task-in (Ia a) h = formed K (true-T _ wf) .task a (act-in (Ia a) h)
+  task-in (Ea a c) h = formed K (true-T _ wf) .task a (act-in (Ea a c) h)
+  task-in (Cx a) h = formed K (true-T _ wf) .task a (act-in (Cx a) h)
+  task-in (Fa a p) h = formed K (true-T _ wf) .task a (act-in (Fa a p) h)
+  task-in (Fm t) h = ltb→lt _ _ h

@@ -1,0 +1,292 @@
+// What a step asks beside the records that it touches, and the tests of a wait. The engine keeps, beside the state, which codel each
+// activity executes and which activities are in N or R, so that no test walks the state or the mutex rows.
+ghost use mathlib.Core.Path.{_≡_};
+ghost use Prim.Native.Nat.{_<_, _≤_, _^_};
+ghost use lib.ListN.{length};
+ghost use lib.Dec.{T};
+ghost use Rattle.model.specs.Tests.{_and_};
+ghost use Rattle.model.specs.Limits.{inRange, mostTicks};
+ghost use Rattle.model.specs.Tables.{known};
+ghost use Rattle.model.specs.Sound.{sound};
+ghost use Rattle.model.specs.Rules.{within, waitRefusal};
+ghost use Rattle.prepared.specs.Prepared.{tableIn, Prepared};
+ghost use Rattle.rules.specs.Local.{named};
+ghost use Rattle.waits.specs.Beside.{busyOf, listedOf, busyIn, clearBy, clearByAt, noneBy, asideBy};
+ghost use Rattle.waits.specs.Waits.{heldIn, actHinders, heldHinders, hindersBy, actRoom, roomBy};
+use model::Act;
+use model::Holder;
+use model::Place;
+use model::State;
+use model::Step;
+use model::Task;
+
+// The number of an activity's codel where it executes none.
+pub const NO_CODEL: usize = 256;
+
+// "d from 1 to 1,000,000,000"
+const MOST_TICKS: u64 = 1000000000;
+
+// "the date 1,000,000,000,000"
+const CEILING: u64 = 1000000000000;
+
+// The codel that an activity executes.
+pub fn busy_of(y: Act) -> usize
+    ensures { λ r. ⌜ r ≡ busyOf y ⌝ }
+{
+    if !y.executing {
+        return NO_CODEL;
+    }
+    let p = y.place;
+    match p {
+        Place::Ether => NO_CODEL,
+        Place::Codel(c) => c,
+    }
+}
+
+// Is an activity in N or R?
+pub fn listed_of(y: Act) -> usize
+    ensures { λ r. ⌜ r ≡ listedOf y ⌝ }
+{
+    if y.run {
+        return 1;
+    }
+    if y.halt {
+        return 1;
+    }
+    0
+}
+
+// Is no codel in conflict with c among those that execute?
+fn is_clear(rows: &[u32], index: &[u32], busy: &[usize], c: usize) -> bool
+    requires { ⌜ Prepared (now rows) (now index) × (c < tableIn (now rows) (now index) .ncodels) × (tableIn (now rows) (now index) .nacts ≤ length (now busy)) ⌝ }
+    ensures { λ r. ⌜ r ≡ clearBy (tableIn (now (rows .entry)) (now (index .entry))) (now (busy .entry)) c ⌝ }
+{
+    let na = prepared::acts(rows, index);
+    let nc = prepared::codels(rows, index);
+    let mut a = 0;
+    while a < na {
+        let d = busy[a];
+        if d < nc {
+            if prepared::in_conflict(rows, index, c, d) {
+                return false;
+            }
+        }
+        a += 1;
+    }
+    true
+}
+
+// The same at a place.
+fn is_clear_at(rows: &[u32], index: &[u32], busy: &[usize], p: Place) -> bool
+    requires { ⌜ Prepared (now rows) (now index) × T (known (tableIn (now rows) (now index)) p) × (tableIn (now rows) (now index) .nacts ≤ length (now busy)) ⌝ }
+    ensures { λ r. ⌜ r ≡ clearByAt (tableIn (now (rows .entry)) (now (index .entry))) (now (busy .entry)) p ⌝ }
+{
+    match p {
+        Place::Ether => true,
+        Place::Codel(c) => is_clear(rows, index, busy, c),
+    }
+}
+
+// Are N and R of a task empty?
+fn none_listed(rows: &[u32], index: &[u32], listed: &[usize], t: usize) -> bool
+    requires { ⌜ Prepared (now rows) (now index) × (t < tableIn (now rows) (now index) .ntasks) × (tableIn (now rows) (now index) .nacts ≤ length (now listed)) ⌝ }
+    ensures { λ r. ⌜ r ≡ noneBy (tableIn (now (rows .entry)) (now (index .entry))) (now (listed .entry)) t ⌝ }
+{
+    let end = prepared::acts_end(rows, index, t);
+    let mut a = prepared::acts_begin(rows, index, t);
+    while a < end {
+        if listed[a] != 0 {
+            return false;
+        }
+        a += 1;
+    }
+    true
+}
+
+// What a step of an activity at a place asks beside its records.
+pub fn aside_of(
+    rows: &[u32],
+    index: &[u32],
+    busy: &[usize],
+    listed: &[usize],
+    st: Step,
+    p: Place,
+) -> bool
+    requires { ⌜ Prepared (now rows) (now index) × T (named (tableIn (now rows) (now index)) st) × T (known (tableIn (now rows) (now index)) p) × (tableIn (now rows) (now index) .nacts ≤ length (now busy)) × (tableIn (now rows) (now index) .nacts ≤ length (now listed)) ⌝ }
+    ensures { λ r. ⌜ r ≡ asideBy (tableIn (now (rows .entry)) (now (index .entry))) (now (busy .entry)) (now (listed .entry)) st p ⌝ }
+{
+    match st {
+        Step::Wait(_) => true,
+        Step::St(_) => true,
+        Step::Sm(_, _, _) => true,
+        Step::Lm(_, _) => true,
+        Step::Ia(_) => true,
+        Step::Ea(_, _) => true,
+        Step::Cx(_) => is_clear_at(rows, index, busy, p),
+        Step::Fa(_, _) => true,
+        Step::Fm(t) => none_listed(rows, index, listed, t),
+    }
+}
+
+fn power(k: usize) -> u64
+    requires { ⌜ k < 64 ⌝ }
+    ensures { λ r. ⌜ r ≡ 2 ^ k ⌝ }
+{
+    1u64 << k
+}
+
+// Is a set within a task? Its activities stand together, so no bit below the first or behind the last is set.
+pub fn is_within(rows: &[u32], index: &[u32], t: usize, n: u64) -> bool
+    requires { ⌜ Prepared (now rows) (now index) × (t < tableIn (now rows) (now index) .ntasks) ⌝ }
+    ensures { λ r. ⌜ r ≡ within (tableIn (now (rows .entry)) (now (index .entry))) t n ⌝ }
+{
+    let begin = prepared::acts_begin(rows, index, t);
+    let end = prepared::acts_end(rows, index, t);
+    if n % power(begin) != 0 {
+        return false;
+    }
+    if end == 64 {
+        return true;
+    }
+    n < power(end)
+}
+
+fn in_range(d: u64) -> bool
+    ensures { λ r. ⌜ r ≡ inRange d ⌝ }
+{
+    if d < 1 {
+        return false;
+    }
+    d <= MOST_TICKS
+}
+
+fn both(a: bool, b: bool) -> bool
+    ensures { λ r. ⌜ r ≡ a and b ⌝ }
+{
+    if a {
+        return b;
+    }
+    false
+}
+
+// The activity that holds, 0 where the manager does.
+fn held_in(h: Holder) -> usize
+    ensures { λ r. ⌜ r ≡ heldIn h ⌝ }
+{
+    match h {
+        Holder::Manager => 0,
+        Holder::Activity(a) => a,
+    }
+}
+
+// Does a holder hinder a wait: in R, at ether, or standing with no conflicting codel executing?
+fn act_hinders(rows: &[u32], index: &[u32], busy: &[usize], y: Act) -> bool
+    requires { ⌜ Prepared (now rows) (now index) × T (known (tableIn (now rows) (now index)) (y .place)) × (tableIn (now rows) (now index) .nacts ≤ length (now busy)) ⌝ }
+    ensures { λ r. ⌜ r ≡ actHinders (tableIn (now (rows .entry)) (now (index .entry))) (now (busy .entry)) y ⌝ }
+{
+    if y.halt {
+        return true;
+    }
+    let p = y.place;
+    match p {
+        Place::Ether => true,
+        Place::Codel(c) => {
+            if prepared::is_safe(rows, index, c) {
+                return false;
+            }
+            if y.executing {
+                return false;
+            }
+            is_clear(rows, index, busy, c)
+        }
+    }
+}
+
+fn held_hinders(rows: &[u32], index: &[u32], busy: &[usize], h: Holder, y: Act) -> bool
+    requires { ⌜ Prepared (now rows) (now index) × T (known (tableIn (now rows) (now index)) (y .place)) × (tableIn (now rows) (now index) .nacts ≤ length (now busy)) ⌝ }
+    ensures { λ r. ⌜ r ≡ heldHinders (tableIn (now (rows .entry)) (now (index .entry))) (now (busy .entry)) h y ⌝ }
+{
+    match h {
+        Holder::Manager => false,
+        Holder::Activity(_) => act_hinders(rows, index, busy, y),
+    }
+}
+
+// 16 of one task: waiting with the signal set, managing with the manager holding, or its holder.
+fn hinders(rows: &[u32], index: &[u32], busy: &[usize], x: Task, y: Act) -> bool
+    requires { ⌜ Prepared (now rows) (now index) × T (known (tableIn (now rows) (now index)) (y .place)) × (tableIn (now rows) (now index) .nacts ≤ length (now busy)) ⌝ }
+    ensures { λ r. ⌜ r ≡ hindersBy (tableIn (now (rows .entry)) (now (index .entry))) (now (busy .entry)) x y ⌝ }
+{
+    let h = x.holder;
+    if x.managing {
+        if rules::is_manager(h) {
+            return true;
+        }
+        return held_hinders(rows, index, busy, h, y);
+    }
+    if x.signal {
+        return true;
+    }
+    held_hinders(rows, index, busy, h, y)
+}
+
+// Does an executing clock stay within its codel's limit?
+fn act_room(rows: &[u32], index: &[u32], d: u64, y: Act) -> bool
+    requires { ⌜ Prepared (now rows) (now index) × T (known (tableIn (now rows) (now index)) (y .place)) × (y .clock ≤ mostTicks) × (d ≤ mostTicks) ⌝ }
+    ensures { λ r. ⌜ r ≡ actRoom (tableIn (now (rows .entry)) (now (index .entry))) d y ⌝ }
+{
+    if !y.executing {
+        return true;
+    }
+    let p = y.place;
+    match p {
+        Place::Ether => true,
+        Place::Codel(c) => y.clock + d <= prepared::limit_of(rows, index, c),
+    }
+}
+
+// 17 of one task: its timer within its period, and its holder's clock within the limit.
+fn has_room(rows: &[u32], index: &[u32], d: u64, t: usize, x: Task, y: Act) -> bool
+    requires { ⌜ Prepared (now rows) (now index) × (t < tableIn (now rows) (now index) .ntasks) × T (known (tableIn (now rows) (now index)) (y .place)) × (y .clock ≤ mostTicks) × (x .timer ≤ mostTicks) × (d ≤ mostTicks) ⌝ }
+    ensures { λ r. ⌜ r ≡ roomBy (tableIn (now (rows .entry)) (now (index .entry))) d t x y ⌝ }
+{
+    if prepared::period_of(rows, index, t) < x.timer + d {
+        return false;
+    }
+    let h = x.holder;
+    match h {
+        Holder::Manager => true,
+        Holder::Activity(_) => act_room(rows, index, d, y),
+    }
+}
+
+// The refusal of a wait, told by the tasks and their holders of a sound state.
+pub fn wait_refusal(rows: &[u32], index: &[u32], busy: &[usize], s: State, d: u64) -> u64
+    requires { ⌜ Prepared (now rows) (now index) × T (sound (tableIn (now rows) (now index)) s) × (now busy ≡ busyIn s) ⌝ }
+    ensures { λ r. ⌜ r ≡ waitRefusal (tableIn (now (rows .entry)) (now (index .entry))) s d ⌝ }
+{
+    if !in_range(d) {
+        return 12;
+    }
+    let nt = prepared::tasks(rows, index);
+    let mut room = true;
+    let mut t = 0;
+    while t < nt {
+        let x = s.tasks[t];
+        let h = x.holder;
+        let a = held_in(h);
+        let y = s.acts[a];
+        if hinders(rows, index, busy, x, y) {
+            return 16;
+        }
+        room = both(room, has_room(rows, index, d, t, x, y));
+        t += 1;
+    }
+    if !room {
+        return 17;
+    }
+    if CEILING < s.date + d {
+        return 18;
+    }
+    0
+}
