@@ -110,6 +110,24 @@ fn fired(x: Task) -> Task
     u
 }
 
+// "Timer 0, signal set; if it was set already while managing, missed grows by 1", on a task's record that is lent.
+pub fn fire(x: &mut Task)
+    requires { ⌜ now x .missed ≤ ceiling ⌝ }
+    ensures { λ _. ⌜ now (x .exit) ≡ signalled (now (x .entry)) ⌝ }
+{
+    *x = fired(*x);
+}
+
+// A record by value, lent to `fire` and handed back: callers need no reference to a record.
+fn signalled_task(x: Task) -> Task
+    requires { ⌜ x .missed ≤ ceiling ⌝ }
+    ensures { λ r. ⌜ r ≡ signalled x ⌝ }
+{
+    let mut u = x;
+    fire(&mut u);
+    u
+}
+
 // "Waiting; the cycle closes; open date, missed and longest become 0."
 fn finished(x: Task) -> Task
     ensures { λ r. ⌜ r ≡ closed x ⌝ }
@@ -169,7 +187,7 @@ fn do_st(rows: &[u32], index: &[u32], t: usize, x: Task, y: Act) -> Told
     if x.timer != prepared::period_of(rows, index, t) {
         return refused(14, x, y);
     }
-    let u = fired(x);
+    let u = signalled_task(x);
     refused(0, u, y)
 }
 

@@ -13,8 +13,8 @@ refused-requires c κs = search needs
 returns : tie.Need-returns
 returns c = search answers
 
-fired-requires : tie.Need-fired-requires
-fired-requires c κs = search needs
+signalled-task-requires : tie.Need-signalled-task-requires
+signalled-task-requires c κs = search needs
 
 refused-requires-2 : tie.Need-refused-requires-2
 refused-requires-2 c κs = search needs
@@ -29,6 +29,6 @@ do-st-spec =
     period-of-requires
     refused-requires
     returns
-    fired-requires
+    signalled-task-requires
     refused-requires-2
     returns-2)
