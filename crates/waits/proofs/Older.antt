@@ -57,7 +57,7 @@ module _ (s : State) (d : ℕ) where
   older-listed = older-same listedOf (λ y. refl)
 
   -- an activity that holds none of the first tasks
-  not-older : (n a : ℕ) → ((t : ℕ) → t < n → taskAt s t .holder ≡ Activity a → ⊥) → getD (olderActs s d n) a noAct ≡ actAt s a
+  pub not-older : (n a : ℕ) → ((t : ℕ) → t < n → taskAt s t .holder ≡ Activity a → ⊥) → getD (olderActs s d n) a noAct ≡ actAt s a
   unfolding olderActs
   not-older zero a h = refl
   not-older (suc n) a h = one-other d (olderActs s d n) (taskAt s n .holder) a (h n (omega arith)) ∙ not-older n a (λ t l. h t (omega arith))

@@ -1,0 +1,12 @@
+pub mod Lines
+pub mod StepKinds
+pub mod Tallying
+pub mod Flags
+pub mod Runs
+pub mod Waiting
+pub mod Naming
+pub mod Managing
+pub mod Stepping
+pub mod Answers
+pub mod Starting
+pub mod Single

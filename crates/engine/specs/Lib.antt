@@ -1,0 +1,5 @@
+pub mod Tallies
+pub mod Play
+pub mod Turns
+pub mod Starts
+pub mod Stepping

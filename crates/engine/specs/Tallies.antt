@@ -1,0 +1,93 @@
+-- What is counted beside a run: the numbers that the `sum` row needs.
+use Prim.Native.Nat.{ℕ, _+_, _-_, _≤_, max}
+use lib.Dec.{leb}
+use mathlib.Core.Bool.{Bool, true, false}
+use Rattle.text.specs.Parts.{pick}
+use Rattle.model.specs.Tests.{_or_}
+use Rattle.model.specs.Tables.{Table}
+use Rattle.model.specs.Logs.{isWait}
+use Rattle.model.specs.Cycles.{KeptRow, Verdict, none, kept, dropped, verdict, opens, drops}
+use Rattle.model.specs.declared.State.{State}
+use Rattle.model.specs.declared.Task.{Task}
+use Rattle.model.specs.declared.Step.{Step}
+use Rattle.model.specs.declared.Step.the-variants.{Wait, St, Sm, Lm, Ia, Ea, Cx, Fa, Fm}
+use Rattle.engine.specs.declared.Tally.{Tally}
+use Rattle.engine.specs.declared.Cycle.{Cycle}
+use Rattle.engine.specs.declared.Ruling.{Ruling}
+use Rattle.engine.specs.declared.Ruling.the-variants.{Open, Kept, Dropped}
+
+-- nothing counted yet
+abbrev pub noTally : Tally
+noTally = record { steps = 0; opened = 0; kept = 0; dropped = 0; since = 0; most = 0 }
+
+-- a kept cycle as the code has it, and a verdict
+abbrev pub cycleOf : KeptRow → Cycle
+cycleOf r = record { task = r .task; cycle = r .cycle; opened = r .opened; closed = r .closed; missed = r .missed; longest = r .longest }
+
+abbrev pub rulingOf : Verdict → Ruling
+rulingOf none = Open
+rulingOf (kept r) = Kept (cycleOf r)
+rulingOf dropped = Dropped
+
+-- how many cycles a verdict keeps
+abbrev pub keepsOne : Verdict → ℕ
+keepsOne none = 0
+keepsOne (kept r) = 1
+keepsOne dropped = 0
+
+-- the tally after an accepted step with its verdict; `since` counts the steps since the last wait, `most` is the most of the stretches
+-- that a wait has ended
+abbrev pub counted : Step → Verdict → Tally → Tally
+counted x v c = record {
+  steps = c .steps + 1;
+  opened = c .opened + opens x;
+  kept = c .kept + keepsOne v;
+  dropped = c .dropped + drops v;
+  since = pick (isWait x) 0 (c .since + 1);
+  most = pick (isWait x) (max (c .most) (c .since)) (c .most);
+}
+
+abbrev pub tallied : Table → State → Step → Tally → Tally
+tallied K s x c = counted x (verdict K s x) c
+
+-- the same by kind of step, as the code has it
+abbrev pub afterWait : Tally → Tally
+afterWait c = record { steps = c .steps + 1; opened = c .opened; kept = c .kept; dropped = c .dropped; since = 0; most = max (c .most) (c .since) }
+
+abbrev pub afterSm : Tally → Tally
+afterSm c = record { steps = c .steps + 1; opened = c .opened + 1; kept = c .kept; dropped = c .dropped; since = c .since + 1; most = c .most }
+
+abbrev pub afterStep : Tally → Ruling → Tally
+afterStep c Open = record { steps = c .steps + 1; opened = c .opened; kept = c .kept; dropped = c .dropped; since = c .since + 1; most = c .most }
+afterStep c (Kept r) = record { steps = c .steps + 1; opened = c .opened; kept = c .kept + 1; dropped = c .dropped; since = c .since + 1; most = c .most }
+afterStep c Dropped = record { steps = c .steps + 1; opened = c .opened; kept = c .kept; dropped = c .dropped + 1; since = c .since + 1; most = c .most }
+
+-- the verdict on a task whose record is x, at a date
+abbrev pub closedBy : ℕ → ℕ → Task → Cycle
+closedBy t date x = record { task = t; cycle = x .cycle; opened = x .opened; closed = date; missed = x .missed; longest = x .longest }
+
+abbrev pub ruledBy : Table → ℕ → ℕ → Task → Ruling
+ruledBy K t date x = pick (leb (K .keep t) (date - x .opened) or leb 1 (x .missed)) (Kept (closedBy t date x)) Dropped
+
+abbrev pub rulingBy : Table → Step → ℕ → Task → Ruling
+rulingBy K (Wait d) date x = Open
+rulingBy K (St t) date x = Open
+rulingBy K (Sm t n r) date x = Open
+rulingBy K (Lm t a) date x = Open
+rulingBy K (Ia a) date x = Open
+rulingBy K (Ea a c) date x = Open
+rulingBy K (Cx a) date x = Open
+rulingBy K (Fa a p) date x = Open
+rulingBy K (Fm t) date x = ruledBy K t date x
+
+-- the most a count may come to
+abbrev pub mostCount : ℕ
+mostCount = 9223372036854775808
+
+-- each count can still grow by n
+pub record Roomy (c : Tally) (n : ℕ) : Type 0 where
+  pub steps : c .steps + n ≤ mostCount
+  pub opened : c .opened + n ≤ mostCount
+  pub kept : c .kept + n ≤ mostCount
+  pub dropped : c .dropped + n ≤ mostCount
+  pub since : c .since + n ≤ mostCount

@@ -1,0 +1,538 @@
+// The engine: a log played line after line on a state that is changed in place, and one step with everything given by value.
+ghost use mathlib.Core.Path.{_≡_};
+ghost use Prim.Native.Nat.{_-_, _<_, _≤_};
+ghost use lib.ListN.{length};
+ghost use lib.Dec.{T};
+ghost use Rattle.text.specs.Set.{bit};
+ghost use Rattle.model.specs.Limits.{mostTicks, ceiling};
+ghost use Rattle.model.specs.States.{fresh};
+ghost use Rattle.model.specs.Logs.{isWait};
+ghost use Rattle.model.specs.Rules.{managed, aged};
+ghost use Rattle.model.specs.Sound.{sound};
+ghost use Rattle.log.specs.Lines.{readLine};
+ghost use Rattle.prepared.specs.Prepared.{tableIn, Prepared};
+ghost use Rattle.rules.specs.Local.{named};
+ghost use Rattle.engine.specs.Tallies.{ruledBy, rulingBy, afterWait, afterSm, afterStep, Roomy};
+ghost use Rattle.engine.specs.Play.{ranOf, Ready, Runs};
+ghost use Rattle.engine.specs.Turns.{lineAt, ticksOf, isSm, smNumber, smBy, inLists, flagged};
+ghost use Rattle.engine.specs.Starts.{goingFrom, freshGoing};
+ghost use Rattle.engine.specs.Stepping.{lineStepped, stepped};
+use model::Act;
+use model::Holder;
+use model::Line;
+use model::Place;
+use model::State;
+use model::Step;
+use model::Task;
+use table::Answer;
+use table::Table;
+
+// What is counted beside a run: accepted steps, cycles opened, kept and dropped, the steps since the last wait, and the most of the
+// stretches that a wait has ended.
+pub struct Tally {
+    pub steps: u64,
+    pub opened: u64,
+    pub kept: u64,
+    pub dropped: u64,
+    pub since: u64,
+    pub most: u64,
+}
+
+// A cycle that was closed and kept.
+pub struct Cycle {
+    pub task: usize,
+    pub cycle: u64,
+    pub opened: u64,
+    pub closed: u64,
+    pub missed: u64,
+    pub longest: u64,
+}
+
+// The verdict that a step gives: none, or on the cycle that it closes.
+pub enum Ruling {
+    Open,
+    Kept(Cycle),
+    Dropped,
+}
+
+// Why a run stopped: the log's end, a refused line, or a cycle that was kept.
+pub enum Stop {
+    End,
+    Refused(u64),
+    Closed(Cycle),
+}
+
+// What is carried from run to run: the state, beside it the codel that each activity executes and whether it is in N or R, and the tally.
+pub struct Going {
+    pub state: State,
+    pub busy: [usize; model::MOST_ACTS],
+    pub listed: [usize; model::MOST_ACTS],
+    pub tally: Tally,
+}
+
+// A run: what it came to, the place in the log behind the last accepted line, and why it stopped.
+pub struct Ran {
+    pub going: Going,
+    pub at: usize,
+    pub stop: Stop,
+}
+
+// A step's refusal, 0 for none, and the state behind it.
+pub struct Stepped {
+    pub number: u64,
+    pub state: State,
+}
+
+// The line from a place up to the newline at e; none where the log ends first.
+fn line_at(log: &[u8], at: usize, e: usize) -> Line
+    requires { ⌜ (at ≤ e) × (e ≤ length (now log)) ⌝ }
+    ensures { λ r. ⌜ r ≡ lineAt (now (log .entry)) at e ⌝ }
+{
+    if e == log.len() {
+        return Line::Bad;
+    }
+    log::read_step(&log[at..e])
+}
+
+fn is_wait(st: Step) -> bool
+    ensures { λ r. ⌜ r ≡ isWait st ⌝ }
+{
+    match st {
+        Step::Wait(_) => true,
+        Step::St(_) => false,
+        Step::Sm(_, _, _) => false,
+        Step::Lm(_, _) => false,
+        Step::Ia(_) => false,
+        Step::Ea(_, _) => false,
+        Step::Cx(_) => false,
+        Step::Fa(_, _) => false,
+        Step::Fm(_) => false,
+    }
+}
+
+fn is_sm(st: Step) -> bool
+    ensures { λ r. ⌜ r ≡ isSm st ⌝ }
+{
+    match st {
+        Step::Wait(_) => false,
+        Step::St(_) => false,
+        Step::Sm(_, _, _) => true,
+        Step::Lm(_, _) => false,
+        Step::Ia(_) => false,
+        Step::Ea(_, _) => false,
+        Step::Cx(_) => false,
+        Step::Fa(_, _) => false,
+        Step::Fm(_) => false,
+    }
+}
+
+// The ticks of a wait.
+fn ticks_of(st: Step) -> u64
+    ensures { λ r. ⌜ r ≡ ticksOf st ⌝ }
+{
+    match st {
+        Step::Wait(d) => d,
+        Step::St(_) => 0,
+        Step::Sm(_, _, _) => 0,
+        Step::Lm(_, _) => 0,
+        Step::Ia(_) => 0,
+        Step::Ea(_, _) => 0,
+        Step::Cx(_) => 0,
+        Step::Fa(_, _) => 0,
+        Step::Fm(_) => 0,
+    }
+}
+
+// An executing clock grows by d.
+fn older_clock(y: Act, d: u64) -> u64
+    requires { ⌜ (y .clock ≤ mostTicks) × (d ≤ mostTicks) ⌝ }
+    ensures { λ r. ⌜ r ≡ aged (y .executing) d (y .clock) ⌝ }
+{
+    if y.executing {
+        return y.clock + d;
+    }
+    y.clock
+}
+
+// `sm` on its task: 12 for a set outside it, 13 unless the manager waits and the signal is set.
+fn sm_number(rows: &[u32], index: &[u32], t: usize, n: u64, r: u64, x: Task) -> u64
+    requires { ⌜ Prepared (now rows) (now index) × (t < tableIn (now rows) (now index) .ntasks) ⌝ }
+    ensures { λ k. ⌜ k ≡ smNumber (tableIn (now (rows .entry)) (now (index .entry))) t n r x ⌝ }
+{
+    if !waits::is_within(rows, index, t, n) {
+        return 12;
+    }
+    if !waits::is_within(rows, index, t, r) {
+        return 12;
+    }
+    if x.managing {
+        return 13;
+    }
+    if x.signal {
+        return 0;
+    }
+    13
+}
+
+fn sm_refusal(rows: &[u32], index: &[u32], st: Step, x: Task) -> u64
+    requires { ⌜ Prepared (now rows) (now index) × T (named (tableIn (now rows) (now index)) st) ⌝ }
+    ensures { λ k. ⌜ k ≡ smBy (tableIn (now (rows .entry)) (now (index .entry))) st x ⌝ }
+{
+    let Step::Sm(t, n, r) = st else {
+        return 13;
+    };
+    sm_number(rows, index, t, n, r, x)
+}
+
+fn has_bit(n: u64, a: usize) -> bool
+    requires { ⌜ a < 64 ⌝ }
+    ensures { λ r. ⌜ r ≡ bit n a ⌝ }
+{
+    (n >> a) % 2 == 1
+}
+
+fn with_flags(y: Act, run: bool, halt: bool) -> Act
+    ensures { λ r. ⌜ r ≡ inLists run halt y ⌝ }
+{
+    let mut v = y;
+    v.run = run;
+    v.halt = halt;
+    v
+}
+
+// An activity of an `sm`'s task, put into N and R as its sets say.
+fn flag(st: Step, a: usize, y: Act) -> Act
+    requires { ⌜ a < 64 ⌝ }
+    ensures { λ r. ⌜ r ≡ flagged st a y ⌝ }
+{
+    let Step::Sm(_, n, r) = st else {
+        return y;
+    };
+    with_flags(y, has_bit(n, a), has_bit(r, a))
+}
+
+// "Signal cleared, managing, .. cycle number up by 1, open date = date."
+fn opened_task(date: u64, x: Task) -> Task
+    requires { ⌜ x .cycle ≤ ceiling ⌝ }
+    ensures { λ r. ⌜ r ≡ managed date x ⌝ }
+{
+    let mut u = x;
+    u.signal = false;
+    u.managing = true;
+    u.cycle = x.cycle + 1;
+    u.opened = date;
+    u
+}
+
+// "kept if close date minus open date is at least the task's keep, or missed is at least 1; else dropped"
+fn ruled(rows: &[u32], index: &[u32], t: usize, date: u64, x: Task) -> Ruling
+    requires { ⌜ Prepared (now rows) (now index) × (t < tableIn (now rows) (now index) .ntasks) × (x .opened ≤ date) ⌝ }
+    ensures { λ r. ⌜ r ≡ ruledBy (tableIn (now (rows .entry)) (now (index .entry))) t date x ⌝ }
+{
+    let kept = Ruling::Kept(Cycle {
+        task: t,
+        cycle: x.cycle,
+        opened: x.opened,
+        closed: date,
+        missed: x.missed,
+        longest: x.longest,
+    });
+    if prepared::keep_of(rows, index, t) <= date - x.opened {
+        return kept;
+    }
+    if 1 <= x.missed {
+        return kept;
+    }
+    Ruling::Dropped
+}
+
+// The verdict that an accepted step gives: only `fm` gives one.
+fn ruling_of(rows: &[u32], index: &[u32], st: Step, date: u64, x: Task) -> Ruling
+    requires { ⌜ Prepared (now rows) (now index) × T (named (tableIn (now rows) (now index)) st) × (x .opened ≤ date) ⌝ }
+    ensures { λ r. ⌜ r ≡ rulingBy (tableIn (now (rows .entry)) (now (index .entry))) st date x ⌝ }
+{
+    let Step::Fm(t) = st else {
+        return Ruling::Open;
+    };
+    ruled(rows, index, t, date, x)
+}
+
+fn after_wait(c: Tally) -> Tally
+    requires { ⌜ Roomy c 1 ⌝ }
+    ensures { λ r. ⌜ r ≡ afterWait c ⌝ }
+{
+    let mut d = c;
+    d.steps = c.steps + 1;
+    d.since = 0;
+    if c.most < c.since {
+        d.most = c.since;
+        return d;
+    }
+    d
+}
+
+fn after_sm(c: Tally) -> Tally
+    requires { ⌜ Roomy c 1 ⌝ }
+    ensures { λ r. ⌜ r ≡ afterSm c ⌝ }
+{
+    let mut d = c;
+    d.steps = c.steps + 1;
+    d.opened = c.opened + 1;
+    d.since = c.since + 1;
+    d
+}
+
+// The tally after any other step, by its verdict.
+fn after_step(c: Tally, w: Ruling) -> Tally
+    requires { ⌜ Roomy c 1 ⌝ }
+    ensures { λ r. ⌜ r ≡ afterStep c w ⌝ }
+{
+    let mut d = c;
+    d.steps = c.steps + 1;
+    d.since = c.since + 1;
+    match w {
+        Ruling::Open => d,
+        Ruling::Kept(_) => {
+            d.kept = c.kept + 1;
+            d
+        }
+        Ruling::Dropped => {
+            d.dropped = c.dropped + 1;
+            d
+        }
+    }
+}
+
+fn left_at(
+    state: State,
+    busy: [usize; model::MOST_ACTS],
+    listed: [usize; model::MOST_ACTS],
+    tally: Tally,
+    at: usize,
+    stop: Stop,
+) -> Ran
+    ensures { λ r. ⌜ r ≡ ranOf state busy listed tally at stop ⌝ }
+{
+    Ran {
+        going: Going {
+            state: state,
+            busy: busy,
+            listed: listed,
+            tally: tally,
+        },
+        at: at,
+        stop: stop,
+    }
+}
+
+// Plays a log from a place on: line after line, up to its end, the first refusal, or the next cycle that is kept.
+pub fn run(rows: &[u32], index: &[u32], log: &[u8], from: usize, g: Going) -> Ran
+    requires { ⌜ Prepared (now rows) (now index) × Ready (tableIn (now rows) (now index)) g × (from ≤ length (now log)) × Roomy (g .tally) (length (now log) - from) ⌝ }
+    ensures { λ r. ⌜ Runs (tableIn (now (rows .entry)) (now (index .entry))) (now (log .entry)) from g r ⌝ }
+{
+    let nt = prepared::tasks(rows, index);
+    let mut s = g.state;
+    let mut busy = g.busy;
+    let mut listed = g.listed;
+    let mut c = g.tally;
+    let mut at = from;
+    while at < log.len() {
+        let e = text::next_byte(log, at, text::NEWLINE);
+        let Line::Is(st) = line_at(log, at, e) else {
+            return left_at(s, busy, listed, c, at, Stop::Refused(11));
+        };
+        if is_wait(st) {
+            let d = ticks_of(st);
+            let n = waits::wait_refusal(rows, index, &busy, s, d);
+            if n != 0 {
+                return left_at(s, busy, listed, c, at, Stop::Refused(n));
+            }
+            let mut m = 0;
+            while m < nt {
+                let x = s.tasks[m];
+                let h = x.holder;
+                let late = x.timer + d;
+                s.tasks[m].timer = late;
+                m += 1;
+                match h {
+                    Holder::Manager => {}
+                    Holder::Activity(a) => {
+                        let y = s.acts[a];
+                        let old = older_clock(y, d);
+                        s.acts[a].clock = old;
+                    }
+                }
+            }
+            s.date = s.date + d;
+            c = after_wait(c);
+            at = e + 1;
+            continue;
+        }
+        if !rules::rows_exist(rows, index, st) {
+            return left_at(s, busy, listed, c, at, Stop::Refused(12));
+        }
+        let ti = rules::task_in(rows, index, st);
+        let x = s.tasks[ti];
+        if is_sm(st) {
+            let n = sm_refusal(rows, index, st, x);
+            if n != 0 {
+                return left_at(s, busy, listed, c, at, Stop::Refused(n));
+            }
+            let end = prepared::acts_end(rows, index, ti);
+            let mut a = prepared::acts_begin(rows, index, ti);
+            while a < end {
+                let y = s.acts[a];
+                let v = flag(st, a, y);
+                s.acts[a] = v;
+                listed[a] = waits::listed_of(v);
+                a += 1;
+            }
+            let u = opened_task(s.date, x);
+            s.tasks[ti] = u;
+            c = after_sm(c);
+            at = e + 1;
+            continue;
+        }
+        let ai = rules::act_in(st);
+        let y = s.acts[ai];
+        let p = y.place;
+        let aside = waits::aside_of(rows, index, &busy, &listed, st, p);
+        let told = rules::local_step(rows, index, st, aside, x, y);
+        let n = told.number;
+        if n != 0 {
+            return left_at(s, busy, listed, c, at, Stop::Refused(n));
+        }
+        let u = told.task;
+        let v = told.act;
+        s.tasks[ti] = u;
+        s.acts[ai] = v;
+        busy[ai] = waits::busy_of(v);
+        listed[ai] = waits::listed_of(v);
+        let w = ruling_of(rows, index, st, s.date, x);
+        c = after_step(c, w);
+        at = e + 1;
+        match w {
+            Ruling::Open => {}
+            Ruling::Kept(k) => {
+                return left_at(s, busy, listed, c, at, Stop::Closed(k));
+            }
+            Ruling::Dropped => {}
+        }
+    }
+    left_at(s, busy, listed, c, at, Stop::End)
+}
+
+// What a run carries that starts at a state, with nothing counted yet.
+fn going_from(s: State) -> Going
+    ensures { λ r. ⌜ r ≡ goingFrom s ⌝ }
+{
+    let mut busy = [0usize; model::MOST_ACTS];
+    let mut listed = [0usize; model::MOST_ACTS];
+    let mut a = 0;
+    while a < model::MOST_ACTS {
+        let y = s.acts[a];
+        busy[a] = waits::busy_of(y);
+        listed[a] = waits::listed_of(y);
+        a += 1;
+    }
+    Going {
+        state: s,
+        busy: busy,
+        listed: listed,
+        tally: Tally {
+            steps: 0,
+            opened: 0,
+            kept: 0,
+            dropped: 0,
+            since: 0,
+            most: 0,
+        },
+    }
+}
+
+// "Fresh: everything 0 or empty, managers waiting and holding, activities at ether."
+fn fresh_state() -> State
+    ensures { λ r. ⌜ r ≡ fresh ⌝ }
+{
+    let x = Task {
+        timer: 0,
+        signal: false,
+        managing: false,
+        holder: Holder::Manager,
+        cycle: 0,
+        opened: 0,
+        missed: 0,
+        longest: 0,
+    };
+    let y = Act {
+        place: Place::Ether,
+        executing: false,
+        clock: 0,
+        run: false,
+        halt: false,
+    };
+    let tasks = [x; model::MOST_TASKS];
+    let acts = [y; model::MOST_ACTS];
+    State {
+        date: 0,
+        tasks: tasks,
+        acts: acts,
+    }
+}
+
+// Where every log starts.
+pub fn fresh_going() -> Going
+    ensures { λ r. ⌜ r ≡ freshGoing ⌝ }
+{
+    going_from(fresh_state())
+}
+
+// A line's step on a sound state: a run over that one line. "A refusal returns the number and the state as it came."
+fn step_line(rows: &[u32], index: &[u32], s: State, line: &[u8]) -> Stepped
+    requires { ⌜ Prepared (now rows) (now index) × T (sound (tableIn (now rows) (now index)) s) ⌝ }
+    ensures { λ r. ⌜ r ≡ lineStepped (tableIn (now (rows .entry)) (now (index .entry))) s (readLine (now (line .entry))) ⌝ }
+{
+    let Line::Is(_) = log::read_line(line) else {
+        return Stepped {
+            number: 11,
+            state: s,
+        };
+    };
+    let r = run(rows, index, line, 0, going_from(s));
+    let stop = r.stop;
+    let going = r.going;
+    let reached = going.state;
+    let Stop::Refused(n) = stop else {
+        return Stepped {
+            number: 0,
+            state: reached,
+        };
+    };
+    Stepped {
+        number: n,
+        state: s,
+    }
+}
+
+// One step with everything given by value: the table, the state, and the line with its newline.
+pub fn step(t: Table, s: State, line: &[u8]) -> Stepped
+    ensures { λ r. ⌜ r ≡ stepped t s (now (line .entry)) ⌝ }
+{
+    let checked = table::check_table(t);
+    let verdict = checked.answer;
+    let Answer::Fine = verdict else {
+        return Stepped {
+            number: 19,
+            state: s,
+        };
+    };
+    let index = preparing::index_of(t);
+    let rows = t.rows;
+    if !soundness::is_sound(&rows, &index, s) {
+        return Stepped {
+            number: 19,
+            state: s,
+        };
+    }
+    step_line(&rows, &index, s, line)
+}
