@@ -1,0 +1,103 @@
+-- The numbers of a `sum` row, and whether counts can grow and a buffer holds: one law for each answer, over plain variables.
+use Prim.Native.Nat.{ℕ, zero, suc, _+_, _-_, _/_, _≤_, _<_, max}
+use mathlib.Core.Path.{_≡_, refl}
+use mathlib.Core.List.{List, [], _∷_}
+use mathlib.Core.Bool.{Bool, true, false}
+use native.Mathlib.Omega.{arith}
+use native.Mathlib.Numerals.{add-one}
+use lib.Dec.{leb}
+use borrow.Author.Tests.{le-leb, lt-leb, leb-true}
+use Rattle.text.proofs.Picks.{false-true}
+use Rattle.model.specs.Tests.{one, sum}
+use Rattle.model.specs.States.{taskAt}
+use Rattle.model.specs.Tables.{Table}
+use Rattle.model.specs.Cycles.{managing, lineOf}
+use Rattle.model.specs.declared.State.{State}
+use Rattle.prepared.specs.Prepared.{tableIn, Prepared}
+use Rattle.prepared.proofs.Stored.{most-tasks}
+use Rattle.engine.specs.Tallies.{mostCount, Roomy}
+use Rattle.engine.specs.declared.Tally.{Tally}
+use Rattle.judging.specs.Rows.{sumNumbers}
+use Rattle.judging.specs.Telling.{sumOf, surely}
+
+-- the line of a refusal
+pub line-some : (n steps : ℕ) → (n ≡ 0 → ⊥) → steps + 1 ≡ lineOf n steps
+line-some zero steps h = absurd (h refl)
+line-some (suc n) steps h = refl
+
+-- the numbers of the `sum` row, each as it was found
+pub sum-known : (K : Table) (s : State) (c : Tally) (n a b d : ℕ) → a ≡ managing K s → b ≡ max (c .most) (c .since) → d ≡ lineOf n (c .steps)
+    → c .steps ∷ s .date ∷ c .opened ∷ c .kept ∷ c .dropped ∷ a ∷ b ∷ n ∷ d ∷ [] ≡ sumNumbers (sumOf K s c n)
+sum-known K s c n a b d p q r = rw (p, q, r)
+
+-- whether a buffer surely holds a report
+module _ (room bytes : ℕ) where
+  pub surely-not : room < 202 → false ≡ surely room bytes
+  surely-not h = rw (lt-leb _ _ h)
+
+  pub surely-by : 202 ≤ room → leb (bytes / 44) ((room - 202) / 75) ≡ surely room bytes
+  surely-by h = rw (le-leb _ _ h)
+
+-- there are at most sixteen tasks
+pub few-tasks : {rows index : List ℕ} → Prepared rows index → (m : ℕ) → m ≡ tableIn rows index .ntasks → m ≤ 16
+few-tasks p m e = rw e (most-tasks p)
+
+-- how many tasks manage, counted up to a task
+abbrev pub counted : State → ℕ → ℕ
+counted s t = sum t (λ i. one (taskAt s i .managing))
+
+pub counted-none : (s : State) → 0 ≡ counted s 0
+unfolding sum
+counted-none s = refl
+
+module _ (s : State) (n t : ℕ) (now : n ≡ counted s t) where
+  -- this one manages
+  pub counted-one : taskAt s t .managing ≡ true → n + 1 ≡ counted s (t + 1)
+  unfolding sum
+  counted-one h = rw (add-one t, h, ← now)
+
+  -- this one does not
+  pub counted-same : taskAt s t .managing ≡ false → n ≡ counted s (t + 1)
+  unfolding sum
+  counted-same h = rw (add-one t, h, ← now) (omega arith)
+
+  -- each was counted
+  pub counted-all : (K : Table) (m : ℕ) → m ≡ K .ntasks → t ≤ m → m ≤ t → n ≡ managing K s
+  unfolding managing
+  counted-all K m e h l = let q : t ≡ K .ntasks = omega arith in rw q at now
+
+-- a test that says whether each count can grow
+abbrev pub Grows : Bool → Tally → ℕ → Type 0
+Grows r c n = (r ≡ true → Roomy c n) × (Roomy c n → r ≡ true)
+
+module _ (c : Tally) (n : ℕ) where
+  grows-not : (Roomy c n → ⊥) → Grows false c n
+  grows-not h = (λ e. absurd (false-true e), λ r. absurd (h r))
+
+  -- more than any count may come to
+  pub grows-over : mostCount < n → Grows false c n
+  grows-over h = grows-not (λ r. omega (arith, r .steps))
+
+  -- one count is too large already
+  module _ (l : n ≤ mostCount) where
+    pub grows-steps : mostCount - n < c .steps → Grows false c n
+    grows-steps h = grows-not (λ r. omega (arith, r .steps))
+
+    pub grows-opened : mostCount - n < c .opened → Grows false c n
+    grows-opened h = grows-not (λ r. omega (arith, r .opened))
+
+    pub grows-kept : mostCount - n < c .kept → Grows false c n
+    grows-kept h = grows-not (λ r. omega (arith, r .kept))
+
+    pub grows-dropped : mostCount - n < c .dropped → Grows false c n
+    grows-dropped h = grows-not (λ r. omega (arith, r .dropped))
+
+    -- only the last is left to ask
+    pub grows-since : c .steps ≤ mostCount - n → c .opened ≤ mostCount - n → c .kept ≤ mostCount - n → c .dropped ≤ mostCount - n
+        → Grows (leb (c .since) (mostCount - n)) c n
+    grows-since a b d e = (
+      λ t.
+          let f : c .since ≤ mostCount - n = leb-true (c .since) (mostCount - n) t in
+          record { steps = omega arith; opened = omega arith; kept = omega arith; dropped = omega arith; since = omega arith },
+      λ r. le-leb (c .since) (mostCount - n) (omega (arith, r .since)),
+    )

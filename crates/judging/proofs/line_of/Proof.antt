@@ -1,0 +1,17 @@
+-- `line_of` meets its contract.
+use borrow.Author.Needs.{needs}
+use Rattle.judging.proofs.Counts.{line-some}
+use Rattle.judging.proofs.line_of.Statement.{statement}
+use Rattle.judging.proofs.line_of.Tie as tie
+
+returns : tie.Need-returns
+returns c = search needs
+
+add-result : tie.Need-add-result
+add-result c = search needs
+
+returns-2 : tie.Need-returns-2
+returns-2 c = search (line-some)
+
+pub line-of-spec : {M : Type 1} → statement M
+line-of-spec = tie.close (tie.spec returns add-result returns-2)

@@ -1,0 +1,34 @@
+-- `put_sum` meets its contract.
+use borrow.Author.Needs.{needs}
+use Rattle.judging.proofs.Lines.{known-put}
+use Rattle.judging.proofs.put_sum.Statement.{statement}
+use Rattle.judging.proofs.put_sum.Tie as tie
+
+sum-numbers-requires : tie.Need-sum-numbers-requires
+sum-numbers-requires c κs = search needs
+
+slice-aggregate-put-line : tie.Need-slice-aggregate-put-line
+slice-aggregate-put-line c = search needs
+
+slice-aggregate-put-line-2 : tie.Need-slice-aggregate-put-line-2
+slice-aggregate-put-line-2 c = search needs
+
+put-line-requires : tie.Need-put-line-requires
+put-line-requires c κs = search needs
+
+same-length : tie.Need-same-length
+same-length c = search needs
+
+returns : tie.Need-returns
+returns c = search (known-put)
+
+pub put-sum-spec : {M : Type 1} → statement M
+put-sum-spec =
+    tie.close
+    (tie.spec
+    sum-numbers-requires
+    slice-aggregate-put-line
+    slice-aggregate-put-line-2
+    put-line-requires
+    same-length
+    returns)

@@ -1,0 +1,444 @@
+// The judge: a log judged against a table, and the report written. What the program streams and what the recorder calls is one work.
+ghost use mathlib.Core.Path.{_≡_};
+ghost use mathlib.Core.Bool.{true};
+ghost use Prim.Native.Nat.{_+_, _-_, _<_, _≤_, max};
+ghost use lib.ListN.{length};
+ghost use lib.Dec.{leb};
+ghost use Rattle.text.specs.Parts.{splitOn};
+ghost use Rattle.text.specs.Put.{Put};
+ghost use Rattle.model.specs.Cycles.{managing, lineOf, refusedReport};
+ghost use Rattle.prepared.specs.Prepared.{tableIn, Prepared};
+ghost use Rattle.table.specs.Checks.{checkTable};
+ghost use Rattle.table.specs.Tables.{tableOf};
+ghost use Rattle.table.specs.declared.Answer.the-variants.{Fine};
+ghost use Rattle.engine.specs.Tallies.{mostCount, Roomy};
+ghost use Rattle.engine.specs.Play.{Ready};
+ghost use Rattle.judging.specs.Rows.{numbersText, lineText, headText, cycleNumbers, cycleText, sumNumbers, sumText};
+ghost use Rattle.judging.specs.Report.{reportText, logText, reportOn};
+ghost use Rattle.judging.specs.Telling.{refusalOf, sumOf, surely, Tells};
+ghost use Rattle.judging.specs.Cut.{isEnd, endIn, cutOf, linesEnd, wholeLines};
+use engine::Cycle;
+use engine::Going;
+use engine::Stop;
+use engine::Tally;
+use model::State;
+use table::Answer;
+use table::Table;
+
+// The number of the report's layout.
+const LAYOUT: u64 = 1;
+
+// The longest `kept` row.
+pub const LONGEST_KEPT: usize = 75;
+
+// The header's width, and its width with that of the longest `sum` row.
+const HEAD: usize = 9;
+
+const HEAD_AND_SUM: usize = 202;
+
+// What the lines of a closed cycle take at least: its `sm` and its `fm`.
+const CYCLE_LINES: usize = 44;
+
+// The most that a count may come to.
+const MOST_COUNT: u64 = 9223372036854775808;
+
+// The longest table text.
+const LONGEST_TABLE: usize = 32768;
+
+// What telling the kept cycles of a log came to: where it stands, the place behind the rows written, and why it stopped. A cycle that it
+// stopped at is not told yet: its row has no room.
+pub struct Told {
+    pub going: Going,
+    pub at: usize,
+    pub filled: usize,
+    pub stop: Stop,
+}
+
+// How wide a line is, its word so many letters.
+fn line_width(letters: usize, numbers: &[u64]) -> usize
+    requires { ⌜ (letters ≤ 6) × (length (now numbers) ≤ 9) ⌝ }
+    ensures { λ r. ⌜ r ≡ letters + length (numbersText (now (numbers .entry))) ⌝ }
+{
+    let mut w = letters + 1;
+    let mut i = 0;
+    while i < numbers.len() {
+        w += 1 + text::width(numbers[i]);
+        i += 1;
+    }
+    w
+}
+
+// Writes a word with its numbers, or nothing where the line does not fit.
+fn put_line(buf: &mut [u8], at: usize, word: &[u8], numbers: &[u64]) -> usize
+    requires { ⌜ (length (now word) ≤ 6) × (length (now numbers) ≤ 9) ⌝ }
+    ensures { λ r. ⌜ Put (now (buf .entry)) at (lineText (now (word .entry)) (now (numbers .entry))) r (now (buf .exit)) ⌝ }
+{
+    let w = line_width(word.len(), numbers);
+    if !text::fits(buf.len(), at, w) {
+        return at;
+    }
+    let mut place = text::put_bytes(buf, at, word);
+    let mut i = 0;
+    while i < numbers.len() {
+        buf[place] = text::TAB;
+        place = text::put_number(buf, place + 1, numbers[i]);
+        i += 1;
+    }
+    buf[place] = text::NEWLINE;
+    place + 1
+}
+
+// Writes the header, or nothing where it does not fit.
+pub fn put_head(buf: &mut [u8]) -> usize
+    ensures { λ r. ⌜ Put (now (buf .entry)) 0 headText r (now (buf .exit)) ⌝ }
+{
+    let numbers = [LAYOUT; 1];
+    put_line(buf, 0, b"cycles", &numbers)
+}
+
+// The numbers of a kept cycle's row.
+fn cycle_numbers(k: Cycle) -> [u64; 6]
+    ensures { λ r. ⌜ r ≡ cycleNumbers k ⌝ }
+{
+    let mut n = [0u64; 6];
+    n[0] = k.task as u64;
+    n[1] = k.cycle;
+    n[2] = k.opened;
+    n[3] = k.closed;
+    n[4] = k.missed;
+    n[5] = k.longest;
+    n
+}
+
+// Writes the row of a kept cycle, or nothing where it does not fit.
+pub fn put_cycle(buf: &mut [u8], at: usize, k: Cycle) -> usize
+    ensures { λ r. ⌜ Put (now (buf .entry)) at (cycleText k) r (now (buf .exit)) ⌝ }
+{
+    let numbers = cycle_numbers(k);
+    put_line(buf, at, b"kept", &numbers)
+}
+
+fn cycle_width(k: Cycle) -> usize
+    ensures { λ r. ⌜ r ≡ length (cycleText k) ⌝ }
+{
+    let numbers = cycle_numbers(k);
+    line_width(4, &numbers)
+}
+
+// How many tasks manage.
+fn count_managing(rows: &[u32], index: &[u32], s: State) -> u64
+    requires { ⌜ Prepared (now rows) (now index) ⌝ }
+    ensures { λ r. ⌜ r ≡ managing (tableIn (now (rows .entry)) (now (index .entry))) s ⌝ }
+{
+    let nt = prepared::tasks(rows, index);
+    let mut n = 0;
+    let mut t = 0;
+    while t < nt {
+        let x = s.tasks[t];
+        t += 1;
+        if x.managing {
+            n += 1;
+        }
+    }
+    n
+}
+
+fn larger(a: u64, b: u64) -> u64
+    ensures { λ r. ⌜ r ≡ max a b ⌝ }
+{
+    if a < b {
+        return b;
+    }
+    a
+}
+
+// "Lines count from the first line of table or log. .. No refusal: 0 and 0."
+fn line_of(refusal: u64, steps: u64) -> u64
+    requires { ⌜ steps ≤ mostCount ⌝ }
+    ensures { λ r. ⌜ r ≡ lineOf refusal steps ⌝ }
+{
+    if refusal == 0 {
+        return 0;
+    }
+    steps + 1
+}
+
+// The numbers of the `sum` row where judging ends with a refusal, 0 for none.
+fn sum_numbers(rows: &[u32], index: &[u32], g: Going, refusal: u64) -> [u64; 9]
+    requires { ⌜ Prepared (now rows) (now index) × (g .tally .steps ≤ mostCount) ⌝ }
+    ensures { λ r. ⌜ r ≡ sumNumbers (sumOf (tableIn (now (rows .entry)) (now (index .entry))) (g .state) (g .tally) refusal) ⌝ }
+{
+    let s = g.state;
+    let c = g.tally;
+    let mut n = [0u64; 9];
+    n[0] = c.steps;
+    n[1] = s.date;
+    n[2] = c.opened;
+    n[3] = c.kept;
+    n[4] = c.dropped;
+    n[5] = count_managing(rows, index, s);
+    n[6] = larger(c.most, c.since);
+    n[7] = refusal;
+    n[8] = line_of(refusal, c.steps);
+    n
+}
+
+// Writes the `sum` row, or nothing where it does not fit.
+pub fn put_sum(
+    rows: &[u32],
+    index: &[u32],
+    buf: &mut [u8],
+    at: usize,
+    g: Going,
+    refusal: u64,
+) -> usize
+    requires { ⌜ Prepared (now rows) (now index) × (g .tally .steps ≤ mostCount) ⌝ }
+    ensures { λ r. ⌜ Put (now (buf .entry)) at (sumText (sumOf (tableIn (now (rows .entry)) (now (index .entry))) (g .state) (g .tally) refusal)) r (now (buf .exit)) ⌝ }
+{
+    let numbers = sum_numbers(rows, index, g, refusal);
+    put_line(buf, at, b"sum", &numbers)
+}
+
+// Plays a log from a place on, and writes the row of each cycle that is kept as it closes, as long as there is room.
+pub fn put_kept(
+    rows: &[u32],
+    index: &[u32],
+    log: &[u8],
+    from: usize,
+    start: Going,
+    buf: &mut [u8],
+    place: usize,
+) -> Told
+    requires { ⌜ Prepared (now rows) (now index) × Ready (tableIn (now rows) (now index)) start × (from ≤ length (now log)) × Roomy (start .tally) (length (now log) - from) × (place ≤ length (now buf)) ⌝ }
+    ensures { λ r. ⌜ Tells (tableIn (now (rows .entry)) (now (index .entry))) (now (log .entry)) from start (now (buf .entry)) place r (now (buf .exit)) ⌝ }
+{
+    let mut g = start;
+    let mut at = from;
+    let mut filled = place;
+    loop {
+        let r = engine::run(rows, index, log, at, g);
+        g = r.going;
+        at = r.at;
+        let stop = r.stop;
+        let Stop::Closed(k) = stop else {
+            return Told {
+                going: g,
+                at: at,
+                filled: filled,
+                stop: stop,
+            };
+        };
+        let more = put_cycle(buf, filled, k);
+        if more == filled {
+            return Told {
+                going: g,
+                at: at,
+                filled: filled,
+                stop: stop,
+            };
+        }
+        filled = more;
+    }
+}
+
+// The zeros of a refused table's `sum` row, with its refusal and line.
+fn refused_numbers(n: u64, line: usize) -> [u64; 9]
+    ensures { λ r. ⌜ r ≡ sumNumbers (refusedReport n line .sum) ⌝ }
+{
+    let mut numbers = [0u64; 9];
+    numbers[7] = n;
+    numbers[8] = line as u64;
+    numbers
+}
+
+// The report on a refused table, or nothing where it does not fit.
+pub fn put_refused(report: &mut [u8], n: u64, line: usize) -> usize
+    ensures { λ r. ⌜ Put (now (report .entry)) 0 (reportText (refusedReport n line)) r (now (report .exit)) ⌝ }
+{
+    let numbers = refused_numbers(n, line);
+    if report.len() < HEAD + line_width(3, &numbers) {
+        return 0;
+    }
+    let at = put_head(report);
+    put_line(report, at, b"sum", &numbers)
+}
+
+// Does the report on a log fit the room? Judges it once, and writes nothing.
+fn does_fit(rows: &[u32], index: &[u32], log: &[u8], room: usize) -> bool
+    requires { ⌜ Prepared (now rows) (now index) ⌝ }
+    ensures { λ r. ⌜ r ≡ leb (length (logText (tableIn (now (rows .entry)) (now (index .entry))) (now (log .entry)))) room ⌝ }
+{
+    if room < HEAD {
+        return false;
+    }
+    let mut g = engine::fresh_going();
+    let mut at = 0;
+    let mut width = HEAD;
+    loop {
+        let r = engine::run(rows, index, log, at, g);
+        g = r.going;
+        at = r.at;
+        let stop = r.stop;
+        let Stop::Closed(k) = stop else {
+            let numbers = sum_numbers(rows, index, g, refusal_of(stop));
+            return text::fits(room, width, line_width(3, &numbers));
+        };
+        let more = cycle_width(k);
+        if !text::fits(room, width, more) {
+            return false;
+        }
+        width += more;
+    }
+}
+
+// The refusal that a run stopped at, 0 for none.
+pub fn refusal_of(stop: Stop) -> u64
+    ensures { λ r. ⌜ r ≡ refusalOf stop ⌝ }
+{
+    match stop {
+        Stop::End => 0,
+        Stop::Refused(n) => n,
+        Stop::Closed(_) => 0,
+    }
+}
+
+// Judges a log and writes its report into a buffer that holds it.
+fn write_report(rows: &[u32], index: &[u32], log: &[u8], report: &mut [u8]) -> usize
+    requires { ⌜ Prepared (now rows) (now index) × (length (logText (tableIn (now rows) (now index)) (now log)) ≤ length (now report)) ⌝ }
+    ensures { λ r. ⌜ Put (now (report .entry)) 0 (logText (tableIn (now (rows .entry)) (now (index .entry))) (now (log .entry))) r (now (report .exit)) ⌝ }
+{
+    let at = put_head(report);
+    let g = engine::fresh_going();
+    let told = put_kept(rows, index, log, 0, g, report, at);
+    let end = told.going;
+    let filled = told.filled;
+    let stop = told.stop;
+    put_sum(rows, index, report, filled, end, refusal_of(stop))
+}
+
+// Does a buffer surely hold the report on a log of so many bytes? A cycle that closes has two lines of its own.
+fn surely_fits(room: usize, bytes: usize) -> bool
+    ensures { λ r. ⌜ r ≡ surely room bytes ⌝ }
+{
+    if room < HEAD_AND_SUM {
+        return false;
+    }
+    bytes / CYCLE_LINES <= (room - HEAD_AND_SUM) / LONGEST_KEPT
+}
+
+// The report on a log, judged against an accepted table; nothing is written where it does not fit.
+fn judge_log(t: Table, log: &[u8], report: &mut [u8]) -> usize
+    requires { ⌜ checkTable t .answer ≡ Fine ⌝ }
+    ensures { λ r. ⌜ Put (now (report .entry)) 0 (logText (tableOf t) (now (log .entry))) r (now (report .exit)) ⌝ }
+{
+    let index = preparing::index_of(t);
+    let rows = t.rows;
+    if !surely_fits(report.len(), log.len()) {
+        if !does_fit(&rows, &index, log, report.len()) {
+            return 0;
+        }
+    }
+    write_report(&rows, &index, log, report)
+}
+
+// The recorder's call: judges a log against a table's text and writes the report. Answers its length, or 0 where it does not fit; the
+// buffer is then unchanged, and so are the bytes past a report.
+#[no_mangle]
+pub extern "C" fn judge(table: &[u8], log: &[u8], report: &mut [u8]) -> usize
+    ensures { λ r. ⌜ Put (now (report .entry)) 0 (reportOn (now (table .entry)) (now (log .entry))) r (now (report .exit)) ⌝ }
+{
+    let read = table::read_table(table);
+    let answer = read.answer;
+    let t = read.table;
+    match answer {
+        Answer::Fine => judge_log(t, log, report),
+        Answer::Refused(n, line) => put_refused(report, n, line),
+    }
+}
+
+// Does a line begin `end` and a tab?
+fn is_end(line: &[u8]) -> bool
+    ensures { λ r. ⌜ r ≡ isEnd (now (line .entry)) ⌝ }
+{
+    if line.len() < 4 {
+        return false;
+    }
+    text::same(&line[..4], b"end\t")
+}
+
+// Where the line that ends the table ends, or else the place given.
+fn table_end(s: &[u8], most: usize) -> usize
+    ensures { λ r. ⌜ r ≡ endIn 0 (splitOn 10 (now (s .entry))) most ⌝ }
+{
+    let mut at = 0;
+    while at < s.len() {
+        let e = text::next_byte(s, at, text::NEWLINE);
+        if s.len() <= e {
+            return most;
+        }
+        if is_end(&s[at..e]) {
+            return e + 1;
+        }
+        at = e + 1;
+    }
+    most
+}
+
+// How many bytes of the input are the table.
+pub fn cut_at(s: &[u8]) -> usize
+    ensures { λ r. ⌜ r ≡ cutOf (now (s .entry)) ⌝ }
+{
+    if s.len() <= LONGEST_TABLE {
+        return table_end(s, s.len());
+    }
+    table_end(&s[..LONGEST_TABLE], LONGEST_TABLE + 1)
+}
+
+// How many bytes there are up to and with the last newline.
+fn lines_end(s: &[u8]) -> usize
+    ensures { λ r. ⌜ r ≡ linesEnd (now (s .entry)) ⌝ }
+{
+    let mut end = s.len();
+    while 0 < end {
+        if s[end - 1] == text::NEWLINE {
+            return end;
+        }
+        end -= 1;
+    }
+    0
+}
+
+// How many bytes of a part of a log are whole lines. What follows is left for later, unless it is too long to be a line.
+pub fn whole_lines(s: &[u8]) -> usize
+    ensures { λ r. ⌜ r ≡ wholeLines (now (s .entry)) ⌝ }
+{
+    let end = lines_end(s);
+    if s.len() - end < log::LONGEST_LINE {
+        return end;
+    }
+    s.len()
+}
+
+// Can each count still grow by n?
+pub fn may_grow(c: Tally, n: usize) -> bool
+    ensures { λ r. ⌜ (r ≡ true → Roomy c n) × (Roomy c n → r ≡ true) ⌝ }
+{
+    let more = n as u64;
+    if MOST_COUNT < more {
+        return false;
+    }
+    let most = MOST_COUNT - more;
+    if most < c.steps {
+        return false;
+    }
+    if most < c.opened {
+        return false;
+    }
+    if most < c.kept {
+        return false;
+    }
+    if most < c.dropped {
+        return false;
+    }
+    c.since <= most
+}
