@@ -1,12 +1,14 @@
-//! What the host tests share: running a program of target/bin, and a seeded source of numbers.
+//! What the host tests share: running programs, and a seeded source of numbers.
 
-use std::io::Write;
-use std::path::PathBuf;
-use std::process::{Command, Stdio};
+use std::io::{ErrorKind, Write};
+use std::path::{Path, PathBuf};
+use std::process::{Child, Command, Stdio};
 
+pub mod driver;
 pub mod model;
 pub mod table;
 pub mod text;
+pub mod told;
 pub mod walk;
 
 /// The repository's folder.
@@ -14,22 +16,58 @@ pub fn repository() -> PathBuf {
     PathBuf::from(env!("CARGO_MANIFEST_DIR")).join("..")
 }
 
-/// Runs the program NAME of target/bin on the bytes of its standard input, and returns what it writes.
-pub fn run_program(name: &str, stdin: &[u8]) -> Vec<u8> {
-    let mut child = Command::new("sh")
+/// Runs a shell script of the repository and asserts that it succeeds.
+pub fn run_script(command: &mut Command) {
+    let status = command.current_dir(repository()).status().expect("sh starts");
+    assert!(status.success(), "{:?} ended with {}", command, status);
+}
+
+/// The program NAME of target/bin.
+pub fn product(name: &str) -> PathBuf {
+    let program = repository().join("target/bin").join(name);
+    assert!(program.is_file(), "target/bin/{} is missing: build it by `rt check {}`", name, name);
+    program
+}
+
+/// Starts an x86-64 program, by the emulator where one is needed, with pipes to it and from it.
+pub fn start(program: &Path) -> Child {
+    Command::new("sh")
         .current_dir(repository())
-        .args(["host/run".to_string(), format!("target/bin/{}", name)])
+        .arg("host/run")
+        .arg(program)
         .stdin(Stdio::piped())
         .stdout(Stdio::piped())
         .spawn()
-        .expect("the program starts");
-    let mut pipe = child.stdin.take().expect("a pipe to its standard input");
-    let bytes = stdin.to_vec();
-    let writer = std::thread::spawn(move || pipe.write_all(&bytes).expect("it reads all of its input"));
+        .expect("sh starts")
+}
+
+/// Writes to a program; one that ends before it has read everything is no failure of the writer.
+pub fn write_to(pipe: &mut impl Write, bytes: &[u8]) {
+    match pipe.write_all(bytes) {
+        Err(error) if error.kind() == ErrorKind::BrokenPipe => {}
+        written => written.expect("the program takes its input"),
+    }
+}
+
+/// What a started program writes, given the writer of its standard input.
+pub fn output_of(mut child: Child, write: impl FnOnce(std::process::ChildStdin) + Send + 'static) -> Vec<u8> {
+    let pipe = child.stdin.take().expect("a pipe to its standard input");
+    let writer = std::thread::spawn(move || write(pipe));
     let output = child.wait_with_output().expect("the program ends");
     writer.join().expect("all was written");
-    assert!(output.status.success(), "{} ended with {}", name, output.status);
+    assert!(output.status.success(), "the program ended with {}", output.status);
     output.stdout
+}
+
+/// Runs an x86-64 program on the bytes of its standard input, and returns what it writes.
+pub fn run(program: &Path, stdin: &[u8]) -> Vec<u8> {
+    let bytes = stdin.to_vec();
+    output_of(start(program), move |mut pipe| write_to(&mut pipe, &bytes))
+}
+
+/// Runs the program NAME of target/bin on the bytes of its standard input, and returns what it writes.
+pub fn run_program(name: &str, stdin: &[u8]) -> Vec<u8> {
+    run(&product(name), stdin)
 }
 
 /// A seeded source of numbers (splitmix64): the same numbers on every machine.

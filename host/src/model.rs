@@ -614,15 +614,19 @@ pub fn judge(table: &[u8], log: &[u8]) -> Vec<u8> {
     }
 }
 
-/// What the function on three slices does: the report's length, or 0 "with the buffer unchanged exactly when the report does not fit".
+/// What the function on three slices does with a report: its length, or 0 "with the buffer unchanged exactly when the report does not fit".
 /// "Bytes past the report are unchanged."
-pub fn judge_into(table: &[u8], log: &[u8], buffer: &mut [u8]) -> usize {
-    let report = judge(table, log);
+pub fn put_report(report: &[u8], buffer: &mut [u8]) -> usize {
     if report.len() > buffer.len() {
         return 0;
     }
-    buffer[..report.len()].copy_from_slice(&report);
+    buffer[..report.len()].copy_from_slice(report);
     report.len()
+}
+
+/// What the function on three slices does.
+pub fn judge_into(table: &[u8], log: &[u8], buffer: &mut [u8]) -> usize {
+    put_report(&judge(table, log), buffer)
 }
 
 /// The last two numbers of a report: the refusal and its line.

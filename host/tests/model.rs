@@ -5,39 +5,12 @@ use host::model::{
     State, Step, CEILING,
 };
 use host::table::{Table, ETHER, LONGEST};
+use host::told::{line_of, lines_of as text, told_cases, K, M, P, STANDING, STOPPED, TWO};
 use host::walk::{
     accepted_step, any_case, any_table, candidates, ceiling_case, partners, refused_everywhere, sized_table, text_of, wanted, wild_step,
     Runner, SIZES,
 };
 use host::Source;
-
-const K: &str = "task 10 5, act 0, codel 0 start 20, edge 0 ether run, end 4";
-const M: &str = "task 10 5, task 10 5, act 0, act 1, codel 0 start 4, codel 1 start 4, edge 0 ether run, edge 1 ether run, mutex 0 1, \
-                 end 9";
-/// The steps of M that leave both activities standing before their codels at date 10.
-const STANDING: &str = "wait 10, st 0, st 1, sm 0 1 0, sm 1 2 0, lm 0 0, lm 1 1, ea 0 0, ea 1 1";
-/// One activity that pauses before its second codel, and may go on to ether from both. No stop.
-const P: &str = "task 10 5, act 0, codel 0 start 20, codel 0 main 20, edge 0 1 pause, edge 1 ether run, end 6";
-/// The same with a stop codel.
-const STOPPED: &str = "task 10 5, act 0, codel 0 start 20, codel 0 main 20, codel 0 stop 20, edge 0 1 pause, edge 1 ether run, \
-                       edge 2 ether run, end 8";
-/// Two tasks; activities 0 and 1 are the first one's. Codel 1 is the target of a pause, codels 0 and 3 are in conflict.
-const TWO: &str = "task 10 5, task 10 5, act 0, act 0, act 1, codel 0 start 4, codel 0 main 4, codel 1 start 4, codel 2 start 4, \
-                   edge 0 1 pause, edge 1 ether run, edge 2 ether run, edge 3 ether run, mutex 0 3, end 14";
-
-/// A row or step as this file writes it: spaces for tabs, and the sets of an `sm` without their leading zeros.
-fn line_of(short: &str) -> String {
-    let fields: Vec<&str> = short.split(' ').collect();
-    match fields.as_slice() {
-        ["sm", task, n, r] => format!("sm\t{}\t{:0>16}\t{:0>16}\n", task, n, r),
-        _ => fields.join("\t") + "\n",
-    }
-}
-
-/// Lines from a list with commas; no list is no line.
-fn text(list: &str) -> Vec<u8> {
-    list.split(", ").filter(|short| !short.is_empty()).map(line_of).collect::<String>().into_bytes()
-}
 
 fn table(list: &str) -> Table {
     Table::read(&text(list)).expect("a table that is fine")
@@ -193,40 +166,10 @@ fn a_keep_that_is_just_met_keeps() {
 }
 
 #[test]
-fn tables_are_refused_by_number_and_line() {
-    let acts = "task 10 5, act 0, act 0, codel 0 start 1, codel 0 stop 1, codel 1 start 1";
-    let cases = [
-        ("task 0 5, task x 5".to_string(), (3, 1)),
-        ("end 0, end 1".to_string(), (2, 2)),
-        ("end 3".to_string(), (6, 1)),
-        ("end 0".to_string(), (7, 1)),
-        ("end 1, end 2".to_string(), (6, 1)),
-        ("codel 0 start 1".to_string(), (4, 1)),
-        ("codel 9 start 0".to_string(), (3, 1)),
-        (format!("{}, mutex 0 0", acts), (5, 7)),
-        (format!("{}, mutex 9 9", acts), (4, 7)),
-        (format!("{}, mutex 2 1", acts), (2, 7)),
-        (format!("{}, edge 0 1 run", acts), (5, 7)),
-        (format!("{}, edge 1 1 run", acts), (5, 7)),
-        (format!("{}, edge 0 2 run", acts), (5, 7)),
-        (format!("{}, edge 0 ether pause", acts), (5, 7)),
-        (format!("{}, edge 0 ether run, edge 0 9999999999 run", acts), (2, 8)),
-        (format!("{}, edge 0 0 run, edge 0 0 pause", acts), (2, 8)),
-        (format!("{}, codel 1 start 1", acts), (5, 7)),
-        (format!("{}, codel 0 main 1", acts), (2, 7)),
-        (format!("{}, act 0", acts), (2, 7)),
-        (format!("{}, end 6", acts), (7, 7)),
-        ("task 10 5, act 0, act 1".to_string(), (4, 3)),
-        (format!("{}act 0, task 1 1", "task 1 1, ".repeat(16)), (2, 18)),
-        (format!("{}task 1 1", "task 1 1, ".repeat(16)), (3, 17)),
-        ("task 10 5 ".to_string(), (1, 1)),
-        ("task 10 05".to_string(), (1, 1)),
-        ("task 10 10000000000".to_string(), (1, 1)),
-        ("task 10 9999999999".to_string(), (3, 1)),
-        ("task 10 5".to_string(), (6, 2)),
-    ];
-    for (list, refused) in cases {
-        assert_eq!(refused_with(&judge(&text(&list), b"st\t0\n")), refused, "{}", list);
+fn cases_are_refused_as_the_page_tells() {
+    for (case, refused) in told_cases() {
+        let shown = || String::from_utf8_lossy(&[&case.table[..], &case.log].concat()).into_owned();
+        assert_eq!(refused_with(&judge(&case.table, &case.log)), refused, "{}", shown());
     }
     assert_eq!(refused_with(&judge(b"task\t10\t5", b"")), (1, 1));
     assert_eq!(refused_with(&judge(&vec![b'x'; LONGEST + 1], b"")), (3, 0));

@@ -1,0 +1,122 @@
+-- The log judged block after block: what a part of a block takes at most, and what the turns over a chunk carry.
+use Prim.Native.Nat.{ℕ, zero, suc, _+_, _-_, _≤_, _<_, min}
+use mathlib.Core.Path.{_≡_, refl, ap, subst⁻¹, _∙_}
+use mathlib.Core.List.{List}
+use mathlib.Core.Bool.{Bool, true, false, not}
+use native.Mathlib.Omega.{arith}
+use lib.ListN.{length, take, drop, length-take}
+use lib.Seq.{length-sets}
+use lib.Dec.{T, ltb}
+use borrow.Author.Tests.{not-false}
+use Rattle.text.specs.Parts.{partsFrom, firstAt}
+use Rattle.text.specs.Put.{Put}
+use Rattle.text.proofs.Picks.{cases, order}
+use Rattle.text.proofs.Puts.{put-fits, put-short}
+use Rattle.model.specs.Tables.{Table}
+use Rattle.log.specs.Lines.{longestLine}
+use Rattle.table.specs.Texts.{longest}
+use Rattle.engine.specs.Tallies.{Roomy}
+use Rattle.engine.specs.Play.{isClosed, Ready}
+use Rattle.engine.specs.Starts.{freshGoing}
+use Rattle.engine.specs.declared.Tally.{Tally}
+use Rattle.engine.specs.declared.Cycle.{Cycle}
+use Rattle.engine.specs.declared.Stop.the-variants.{Closed}
+use Rattle.engine.specs.declared.Going.{Going}
+use Rattle.engine.proofs.Starting.{fresh-ready}
+use Rattle.judging.specs.Cut.{isEnd, endIn, cutOf, linesEnd, wholeLines}
+use Rattle.judging.specs.Telling.{Tells}
+use Rattle.judging.specs.declared.Told.{Told}
+use Rattle.judging.proofs.Cuts.{end-start, end-none, end-last, end-here, end-more, end-less, lines-within}
+use Rattle.judging.proofs.Reporting.{put-length}
+
+-- the table ends within the input: looked for from a place on, in so many turns
+table-within : (n : ℕ) (s : List ℕ) (at most limit : ℕ) → at ≤ length s → length s - at ≤ n → most ≤ limit → length s ≤ limit → endIn at (partsFrom 10 s at) most ≤ limit
+table-within zero s at most limit h l m k = omega (arith, end-none s at most _ h refl (omega arith))
+table-within (suc n) s at most limit h l m k =
+    let e = firstAt s at 10 in
+    order e (length s)
+    (λ i.
+    cases (isEnd (take (e - at) (drop at s)))
+    (λ y. omega (arith, end-here s at most _ h refl e refl i _ refl y))
+    (λ y.
+    let less = end-less s at most _ h refl e refl i in
+    let rest = table-within n s (e + 1) most limit (omega arith) (omega arith) m k in
+    omega (arith, end-more s at most _ h refl e refl i _ refl y)))
+    (λ i. omega (arith, end-last s at most _ h refl e refl i))
+
+pub cut-within : (s : List ℕ) (r : ℕ) → r ≡ cutOf s → r ≤ length s
+unfolding cutOf
+cut-within s r e =
+    let k = length-take longest s in
+    let w = table-within (length (take longest s)) (take longest s) 0 (min (length s) (longest + 1)) (length s) (omega arith) (omega arith) (omega arith) (omega arith) in
+    omega (arith, e, end-start (take longest s) (min (length s) (longest + 1)))
+
+-- whole lines end within what was read
+pub whole-within : (s : List ℕ) (r : ℕ) → r ≡ wholeLines s → r ≤ length s
+unfolding wholeLines
+whole-within s r e =
+    rw e (cases (ltb (length s - linesEnd s) longestLine) (λ y. rw y (lines-within s (linesEnd s) refl)) (λ y. rw y (omega arith)))
+
+-- what lies within the first bytes lies within all
+pub first-within : (n k : ℕ) (s : List ℕ) → n ≤ length (take k s) → n ≤ length s
+first-within n k s h = omega (arith, length-take k s)
+
+-- the fresh state may go on
+pub ready-start : {K : Table} (g : Going) → g ≡ freshGoing → Ready K g
+ready-start {K} g e = subst⁻¹ (Ready K) e (fresh-ready K)
+
+-- the counts can grow where the test found so
+pub may-judge : {c : Tally} {n : ℕ} (may : Bool) → (may ≡ true → Roomy c n) × (Roomy c n → may ≡ true) → not may ≡ false → Roomy c n
+may-judge may h y = h .0 (not-false may y)
+
+-- no more bytes are needed than the ones read
+pub roomy-less : {c : Tally} {n m : ℕ} → Roomy c n → m ≤ n → Roomy c m
+roomy-less h l = record {
+  steps = omega (arith, h .steps);
+  opened = omega (arith, h .opened);
+  kept = omega (arith, h .kept);
+  dropped = omega (arith, h .dropped);
+  since = omega (arith, h .since);
+}
+
+-- a text written ends within the buffer
+pub put-within : {buf text after : List ℕ} {at r : ℕ} → Put buf at text r after → at ≤ length buf → r ≤ length after
+put-within {buf} {text} {at = at} p h =
+    order (length buf) (at + length text)
+    (λ l. omega (arith, put-short l p .0, put-length p))
+    (λ l. omega (arith, put-fits l p .0, put-length p))
+
+-- the turns over a chunk: judged up to a place, with a full buffer of rows behind it and the next ones begun
+pub record Judges (K : Table) (chunk out : List ℕ) (g : Going) (at filled : ℕ) : Type 0 where
+  pub ready : Ready K g
+  pub within : at ≤ length chunk
+  pub roomy : Roomy (g .tally) (length chunk - at)
+  pub size : length out ≡ 65536
+  pub room : filled ≤ length out
+
+pub judges-start : {K : Table} {chunk out : List ℕ} {g : Going} → Ready K g → Roomy (g .tally) (length chunk) → length out ≡ 65536 → Judges K chunk out g 0 0
+judges-start h r e = record { ready = h; within = omega arith; roomy = roomy-less r (omega arith); size = e; room = omega arith }
+
+module _ {K : Table} {log : List ℕ} {from : ℕ} {g : Going} {buf : List ℕ} {place : ℕ} {r : Told} {after : List ℕ} (t : Tells K log from g buf place r after) where
+  -- the buffer keeps its length
+  pub tells-length : length after ≡ length buf
+  tells-length = ap length (t .bytes) ∙ length-sets buf place (t .text)
+
+  -- a run may go on from here, over no more bytes or others
+  pub tells-done : Ready K (r .going) × Roomy (r .going .tally) 0
+  tells-done = (t .ready, roomy-less (t .roomy) (omega arith))
+
+  module _ {k : Cycle} (c : r .stop ≡ Closed k) where
+    -- less of the log is left behind a kept cycle
+    pub tells-less : length log - r .at < length log - from
+    tells-less = let h : T (isClosed (r .stop)) = subst⁻¹ (λ w. T (isClosed w)) c tt in omega (arith, t .within, t .onward h)
+
+    -- its row is the first of the next ones
+    pub judges-more : {text out : List ℕ} {n : ℕ} → length buf ≡ 65536 → Put after 0 text n out → Judges K log out (r .going) (r .at) n
+    judges-more e p = record {
+      ready = t .ready;
+      within = t .within;
+      roomy = t .roomy;
+      size = put-length p ∙ tells-length ∙ e;
+      room = put-within p (omega arith);
+    }
