@@ -343,7 +343,23 @@ pub fn run(rows: &[u32], index: &[u32], log: &[u8], from: usize, g: Going) -> Ra
         };
         if is_wait(st) {
             let d = ticks_of(st);
-            let n = waits::wait_refusal(rows, index, &busy, s, d);
+            if !waits::in_range(d) {
+                return left_at(s, busy, listed, c, at, Stop::Refused(12));
+            }
+            let mut room = true;
+            let mut k = 0;
+            while k < nt {
+                let x = s.tasks[k];
+                let h = x.holder;
+                let a = waits::held_in(h);
+                let y = s.acts[a];
+                if waits::hinders(rows, index, &busy, x, y) {
+                    return left_at(s, busy, listed, c, at, Stop::Refused(16));
+                }
+                room = waits::both(room, waits::has_room(rows, index, d, k, x, y));
+                k += 1;
+            }
+            let n = waits::wait_number(room, s.date, d);
             if n != 0 {
                 return left_at(s, busy, listed, c, at, Stop::Refused(n));
             }

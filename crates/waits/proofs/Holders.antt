@@ -8,7 +8,7 @@ use native.Mathlib.Numerals.{add-one}
 use lib.Dec.{leb, leb→le}
 use lib.ListN.{length, length-map}
 use borrow.Author.Tests.{le-leb, lt-leb, not-true, not-false}
-use Rattle.model.specs.Tests.{_and_, each, some}
+use Rattle.model.specs.Tests.{_and_, each, some, need}
 use Rattle.model.specs.Limits.{mostTicks, inRange, ceiling}
 use Rattle.model.specs.Tables.{Table, safe}
 use Rattle.model.specs.States.{taskAt, actAt, byManager}
@@ -101,72 +101,86 @@ module _ (K : Table) (d : ℕ) (y : Act) where
 
 pub ruleset rooms = (room-idle, room-ether, room-codel, room-late, room-manager, room-held)
 
--- a walk over the tasks that has met none that hinders, and knows whether all have room
-pub some-more : (p : ℕ → Bool) (i : ℕ) → some i p ≡ false → p i ≡ false → some (i + 1) p ≡ false
-unfolding some
-some-more p i e f = rw (add-one, e) f
+-- the number of a wait that no task hinders
+module _ (room : Bool) (date d : ℕ) where
+  pub number-full : not room ≡ true → 17 ≡ need room 17 (need (leb (date + d) ceiling) 18 0)
+  number-full f = rw (not-true room f)
 
-pub room-more : (p : ℕ → Bool) (i : ℕ) (r a b : Bool) → r ≡ (a and b) → a ≡ each i p → b ≡ p i → r ≡ each (i + 1) p
-unfolding each
-room-more p i r a b e f g = rw (add-one, ← f, ← g) e
+  module _ (f : not room ≡ false) where
+    pub number-late : ceiling < date + d → 18 ≡ need room 17 (need (leb (date + d) ceiling) 18 0)
+    number-late l = rw (not-false room f, lt-leb (date + d) ceiling l)
 
--- "d from 1 to 1,000,000,000" by the code's test
-module _ (d : ℕ) (r : Bool) (q : r ≡ inRange d) where
-  pub in-ticks : not r ≡ false → d ≤ mostTicks
-  in-ticks f = leb→le d mostTicks (and-r (leb 1 d) _ (true-T _ (sym q ∙ not-false r f)))
+    pub number-none : date + d ≤ ceiling → 0 ≡ need room 17 (need (leb (date + d) ceiling) 18 0)
+    number-none l = rw (not-false room f, le-leb (date + d) ceiling l)
 
-  pub wait-range : (K : Table) (s : State) → not r ≡ true → 12 ≡ waitRefusal K s d
-  wait-range K s e = rw (← q, not-true r e)
+pub ruleset numbers = (number-full, number-late, number-none)
 
 -- an array's rows as the code holds them are as many as the state's
 pub rows-long : {A B : Type 0} (f : A → B) (l : List A) (n : ℕ) → length (map f l) ≡ n → length l ≡ n
 rows-long f l n e = sym (length-map l f) ∙ e
 
--- the two tests of a task as the code asks them
-module _ (K : Table) (s : State) (t a : ℕ) (e : a ≡ heldIn (taskAt s t .holder)) (r : Bool) where
-  pub hinders-is : (b : Bool) (busy : List ℕ) → busy ≡ busyIn s → r ≡ hindersBy K busy (taskAt s t) (actAt s a) → r ≡ b → hindersAt K s t ≡ b
-  hinders-is b busy q i f = rw (← e, ← q, ← i) f
+-- ticks outside their range
+pub wait-range : (K : Table) (s : State) (d : ℕ) (r : Bool) → r ≡ inRange d → not r ≡ true → 12 ≡ waitRefusal K s d
+wait-range K s d r q e = rw (← q, not-true r e)
 
-  pub room-is : (d : ℕ) → r ≡ roomBy K d t (taskAt s t) (actAt s a) → r ≡ roomAt K s d t
-  room-is d i = rw (← e) i
+-- a wait of d ticks in their range, on a sound state of nt tasks
+pub record Asks (K : Table) (s : State) (d nt : ℕ) : Type 0 where
+  pub formed : Formed K
+  pub sound : Sound K s
+  pub ticks : inRange d ≡ true
+  pub all : nt ≡ K .ntasks
 
-module _ (K : Table) (F : Formed K) (s : State) (S : Sound K s) where
-  -- what is kept has as many rows as the state
-  pub busy-long : (busy : List ℕ) → busy ≡ busyIn s → K .nacts ≤ length busy
-  busy-long busy e = rw (e, length-map (s .acts) busyOf) (omega (arith, F .fits .1, S .shape .acts))
+module _ {K : Table} {s : State} {d nt : ℕ} (A : Asks K s d nt) where
+  pub ticks-fit : d ≤ mostTicks
+  ticks-fit = leb→le d mostTicks (and-r (leb 1 d) _ (true-T _ (A .ticks)))
 
-  module _ (n : ℕ) (m : n ≡ K .ntasks) where
+  module _ {t : ℕ} (h : t < nt) where
+    pub task-fits : t < 16
+    task-fits = omega (arith, A .all, A .formed .fits .0)
+
     -- a task's holder, or 0, has its row
-    pub held-fits : (t a : ℕ) → t < n → a ≡ heldIn (taskAt s t .holder) → a < 64
-    held-fits t a h e = go (taskAt s t .holder) refl e
+    pub held-fits : {a : ℕ} → a ≡ heldIn (taskAt s t .holder) → a < 64
+    held-fits {a} e = go (taskAt s t .holder) refl e
       where
         go : (z : Holder) → taskAt s t .holder ≡ z → a ≡ heldIn z → a < 64
         go Manager q i = omega arith
-        go (Activity b) q i = omega (arith, holder-in K s S t b (omega arith) q .0, F .fits .1)
+        go (Activity b) q i = omega (arith, holder-in K s (A .sound) t b (omega (arith, A .all)) q .0, A .formed .fits .1)
 
-    -- the refusal of a wait in the range
-    module _ (d : ℕ) (r : Bool) (q : r ≡ inRange d) (e : not r ≡ false) where
-      pub wait-hindered : (t : ℕ) → t < n → hindersAt K s t ≡ true → 16 ≡ waitRefusal K s d
-      wait-hindered t h f =
-          let w : some (K .ntasks) (hindersAt K s) ≡ true = T-true _ (some-mk (hindersAt K s) (K .ntasks) t (omega arith) (true-T _ f)) in
-          rw (wait-by-holders K F s S d, ← q, not-false r e, w)
+-- its first k tasks do not hinder it, and room says whether all of them have room for it
+pub record Asked (K : Table) (s : State) (busy : List ℕ) (d nt : ℕ) (room : Bool) (k : ℕ) : Type 0 where
+  pub asks : Asks K s d nt
+  pub kept : busy ≡ busyIn s
+  pub most : k ≤ nt
+  pub none : some k (hindersAt K s) ≡ false
+  pub roomy : room ≡ each k (roomAt K s d)
 
-      module _ (t : ℕ) (l : t ≤ n) (g : n ≤ t) (none : some t (hindersAt K s) ≡ false) (room : Bool) (i : room ≡ each t (roomAt K s d)) where
-        all : t ≡ K .ntasks
-        all = omega arith
+pub asked-none : {K : Table} {s : State} {busy : List ℕ} {d nt : ℕ} → Asks K s d nt → busy ≡ busyIn s → Asked K s busy d nt true 0
+unfolding each some
+asked-none A q = record { asks = A; kept = q; most = omega arith; none = refl; roomy = refl }
 
-        none-all : some (K .ntasks) (hindersAt K s) ≡ false
-        none-all = subst (λ j. some j (hindersAt K s) ≡ false) all none
+module _ {K : Table} {s : State} {busy : List ℕ} {d nt : ℕ} {room : Bool} {k : ℕ} (Q : Asked K s busy d nt room k) where
+  -- what is kept has as many rows as the state
+  pub busy-long : K .nacts ≤ length busy
+  busy-long = rw (Q .kept, length-map (s .acts) busyOf) (omega (arith, Q .asks .formed .fits .1, Q .asks .sound .shape .acts))
 
-        room-all : room ≡ each (K .ntasks) (roomAt K s d)
-        room-all = subst (λ j. room ≡ each j (roomAt K s d)) all i
+  -- one more task
+  module _ (h : k < nt) (a : ℕ) (e : a ≡ heldIn (taskAt s k .holder)) (r : Bool) (i : r ≡ hindersBy K busy (taskAt s k) (actAt s a)) where
+    hinders-is : hindersAt K s k ≡ r
+    hinders-is = rw (← e, ← Q .kept, ← i)
 
-        pub wait-no-room : not room ≡ true → 17 ≡ waitRefusal K s d
-        wait-no-room f = rw (wait-by-holders K F s S d, ← q, not-false r e, none-all, ← room-all, not-true room f)
+    pub wait-hindered : r ≡ true → 16 ≡ waitRefusal K s d
+    wait-hindered f =
+        let w : some (K .ntasks) (hindersAt K s) ≡ true = T-true _ (some-mk (hindersAt K s) (K .ntasks) k (omega (arith, Q .asks .all)) (true-T _ (hinders-is ∙ f))) in
+        rw (wait-by-holders K (Q .asks .formed) s (Q .asks .sound) d, Q .asks .ticks, w)
 
-        module _ (f : not room ≡ false) where
-          pub wait-late : ceiling < s .date + d → 18 ≡ waitRefusal K s d
-          wait-late k = rw (wait-by-holders K F s S d, ← q, not-false r e, none-all, ← room-all, not-false room f, lt-leb (s .date + d) ceiling k)
+    pub asked-more : r ≡ false → (v : Bool) → v ≡ roomBy K d k (taskAt s k) (actAt s a) → (w : Bool) → w ≡ (room and v) → Asked K s busy d nt w (k + 1)
+    unfolding each some
+    asked-more f v j w g = record { asks = Q .asks; kept = Q .kept; most = omega arith; none = rw (add-one, Q .none) (hinders-is ∙ f); roomy = rw (add-one, ← Q .roomy, ← e, ← j) g }
 
-          pub wait-goes : s .date + d ≤ ceiling → 0 ≡ waitRefusal K s d
-          wait-goes k = rw (wait-by-holders K F s S d, ← q, not-false r e, none-all, ← room-all, not-false room f, le-leb (s .date + d) ceiling k)
+  -- all have been asked
+  pub wait-numbered : nt ≤ k → (n : ℕ) → n ≡ need room 17 (need (leb (s .date + d) ceiling) 18 0) → n ≡ waitRefusal K s d
+  wait-numbered l n e =
+      let all : k ≡ K .ntasks = omega (arith, Q .most, Q .asks .all) in
+      let none : some (K .ntasks) (hindersAt K s) ≡ false = subst (λ j. some j (hindersAt K s) ≡ false) all (Q .none) in
+      let room-all : room ≡ each (K .ntasks) (roomAt K s d) = subst (λ j. room ≡ each j (roomAt K s d)) all (Q .roomy) in
+      rw (wait-by-holders K (Q .asks .formed) s (Q .asks .sound) d, Q .asks .ticks, none, ← room-all) e

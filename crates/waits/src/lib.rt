@@ -1,22 +1,20 @@
 // What a step asks beside the records that it touches, and the tests of a wait. The engine keeps, beside the state, which codel each
 // activity executes and which activities are in N or R, so that no test walks the state or the mutex rows.
 ghost use mathlib.Core.Path.{_≡_};
-ghost use Prim.Native.Nat.{_<_, _≤_, _^_};
+ghost use Prim.Native.Nat.{_+_, _<_, _≤_, _^_};
 ghost use lib.ListN.{length};
-ghost use lib.Dec.{T};
-ghost use Rattle.model.specs.Tests.{_and_};
-ghost use Rattle.model.specs.Limits.{inRange, mostTicks};
+ghost use lib.Dec.{T, leb};
+ghost use Rattle.model.specs.Tests.{_and_, need};
+ghost use Rattle.model.specs.Limits.{inRange, mostTicks, ceiling};
 ghost use Rattle.model.specs.Tables.{known};
-ghost use Rattle.model.specs.Sound.{sound};
-ghost use Rattle.model.specs.Rules.{within, waitRefusal};
+ghost use Rattle.model.specs.Rules.{within};
 ghost use Rattle.prepared.specs.Prepared.{tableIn, Prepared};
 ghost use Rattle.rules.specs.Local.{named};
-ghost use Rattle.waits.specs.Beside.{busyOf, listedOf, busyIn, clearBy, clearByAt, noneBy, asideBy};
+ghost use Rattle.waits.specs.Beside.{busyOf, listedOf, clearBy, clearByAt, noneBy, asideBy};
 ghost use Rattle.waits.specs.Waits.{heldIn, actHinders, heldHinders, hindersBy, actRoom, roomBy};
 use model::Act;
 use model::Holder;
 use model::Place;
-use model::State;
 use model::Step;
 use model::Task;
 
@@ -151,7 +149,8 @@ pub fn is_within(rows: &[u32], index: &[u32], t: usize, n: u64) -> bool
     n < power(end)
 }
 
-fn in_range(d: u64) -> bool
+// 12 of a wait: are its ticks in their range?
+pub fn in_range(d: u64) -> bool
     ensures { λ r. ⌜ r ≡ inRange d ⌝ }
 {
     if d < 1 {
@@ -160,7 +159,8 @@ fn in_range(d: u64) -> bool
     d <= MOST_TICKS
 }
 
-fn both(a: bool, b: bool) -> bool
+// Do two tests hold? So a loop over the tasks keeps whether all have room.
+pub fn both(a: bool, b: bool) -> bool
     ensures { λ r. ⌜ r ≡ a and b ⌝ }
 {
     if a {
@@ -169,8 +169,8 @@ fn both(a: bool, b: bool) -> bool
     false
 }
 
-// The activity that holds, 0 where the manager does.
-fn held_in(h: Holder) -> usize
+// The activity that holds, 0 where the manager does: the row of it that the tests of a task are given.
+pub fn held_in(h: Holder) -> usize
     ensures { λ r. ⌜ r ≡ heldIn h ⌝ }
 {
     match h {
@@ -213,7 +213,7 @@ fn held_hinders(rows: &[u32], index: &[u32], busy: &[usize], h: Holder, y: Act) 
 }
 
 // 16 of one task: waiting with the signal set, managing with the manager holding, or its holder.
-fn hinders(rows: &[u32], index: &[u32], busy: &[usize], x: Task, y: Act) -> bool
+pub fn hinders(rows: &[u32], index: &[u32], busy: &[usize], x: Task, y: Act) -> bool
     requires { ⌜ Prepared (now rows) (now index) × T (known (tableIn (now rows) (now index)) (y .place)) × (tableIn (now rows) (now index) .nacts ≤ length (now busy)) ⌝ }
     ensures { λ r. ⌜ r ≡ hindersBy (tableIn (now (rows .entry)) (now (index .entry))) (now (busy .entry)) x y ⌝ }
 {
@@ -246,7 +246,7 @@ fn act_room(rows: &[u32], index: &[u32], d: u64, y: Act) -> bool
 }
 
 // 17 of one task: its timer within its period, and its holder's clock within the limit.
-fn has_room(rows: &[u32], index: &[u32], d: u64, t: usize, x: Task, y: Act) -> bool
+pub fn has_room(rows: &[u32], index: &[u32], d: u64, t: usize, x: Task, y: Act) -> bool
     requires { ⌜ Prepared (now rows) (now index) × (t < tableIn (now rows) (now index) .ntasks) × T (known (tableIn (now rows) (now index)) (y .place)) × (y .clock ≤ mostTicks) × (x .timer ≤ mostTicks) × (d ≤ mostTicks) ⌝ }
     ensures { λ r. ⌜ r ≡ roomBy (tableIn (now (rows .entry)) (now (index .entry))) d t x y ⌝ }
 {
@@ -260,32 +260,15 @@ fn has_room(rows: &[u32], index: &[u32], d: u64, t: usize, x: Task, y: Act) -> b
     }
 }
 
-// The refusal of a wait, told by the tasks and their holders of a sound state.
-pub fn wait_refusal(rows: &[u32], index: &[u32], busy: &[usize], s: State, d: u64) -> u64
-    requires { ⌜ Prepared (now rows) (now index) × T (sound (tableIn (now rows) (now index)) s) × (now busy ≡ busyIn s) ⌝ }
-    ensures { λ r. ⌜ r ≡ waitRefusal (tableIn (now (rows .entry)) (now (index .entry))) s d ⌝ }
+// The number of a wait that no task hinders: 17 unless all have room, 18 where it would pass the ceiling, 0 where it is accepted.
+pub fn wait_number(room: bool, date: u64, d: u64) -> u64
+    requires { ⌜ (date ≤ ceiling) × (d ≤ mostTicks) ⌝ }
+    ensures { λ r. ⌜ r ≡ need room 17 (need (leb (date + d) ceiling) 18 0) ⌝ }
 {
-    if !in_range(d) {
-        return 12;
-    }
-    let nt = prepared::tasks(rows, index);
-    let mut room = true;
-    let mut t = 0;
-    while t < nt {
-        let x = s.tasks[t];
-        let h = x.holder;
-        let a = held_in(h);
-        let y = s.acts[a];
-        if hinders(rows, index, busy, x, y) {
-            return 16;
-        }
-        room = both(room, has_room(rows, index, d, t, x, y));
-        t += 1;
-    }
     if !room {
         return 17;
     }
-    if CEILING < s.date + d {
+    if CEILING < date + d {
         return 18;
     }
     0

@@ -1,17 +1,18 @@
 -- `run` meets its contract. At the start of each line the state is sound, and the lines left come to what all come to from the start. Inside
--- a wait the first tasks and their holders are older, and inside an `sm` the first activities of its task are in N and R.
+-- a wait the first tasks have been asked, and once all have been, the first tasks and their holders are older. Inside an `sm` the first
+-- activities of its task are in N and R.
 use Prim.Native.Nat.{_+_, _-_, _<_}
 use native.Mathlib.Omega.{arith}
 use denote.Ref.{now}
 use borrow.Author.Needs.{needs}
 use lib.ListN.{length}
 use Rattle.text.proofs.Turns.{part-starts, part-ends}
-use Rattle.model.proofs.Soundness.{of-sound}
 use Rattle.prepared.specs.Prepared.{tableIn}
-use Rattle.waits.proofs.Holders.{rows-long}
+use Rattle.waits.proofs.Facts.{place-known, timer-fits, clock-fits}
+use Rattle.waits.proofs.Holders.{rows-long, wait-range, ticks-fit, task-fits, held-fits, Asked, busy-long as asked-long, wait-hindered, asked-more, wait-numbered}
 use Rattle.engine.specs.Tallies.{Roomy}
-use Rattle.engine.proofs.Runs.{Plays, run-starts, run-ends, run-bad, busy-sized, listed-sized, Scene, Turn, turn-is, here, sound-here, newline-inside, less-left, room-for-one, turn-open, turn-dropped, turn-kept}
-use Rattle.engine.proofs.Waiting.{Ages, ticks-fit, date-fits, task-fits, timer-small, ages-manager, holder-fits, clock-small, ages-activity, Waits, turn-waits, wait-stops, ages-none, wait-on}
+use Rattle.engine.proofs.Runs.{Plays, run-starts, run-ends, run-bad, busy-sized, listed-sized, Scene, Turn, turn-is, newline-inside, less-left, room-for-one, turn-open, turn-dropped, turn-kept}
+use Rattle.engine.proofs.Waiting.{Ages, ages-none, date-fits, timer-small, ages-manager, holder-fits, clock-small, ages-activity, Waits, turn-waits, asks-none, wait-stops, wait-on}
 use Rattle.engine.proofs.Naming.{Names, rows-missing, turn-names, task-cell, missed-small, cycle-small, opened-before, act-cell, place-there, busy-long, listed-long}
 use Rattle.engine.proofs.Managing.{Lists, listed-fits, lists-more, Manages, turn-manages, managed-there, sm-stops, lists-none, sm-on}
 use Rattle.engine.proofs.Stepping.{Stored, Steps, turn-steps, step-stops, step-goes}
@@ -19,16 +20,22 @@ use Rattle.engine.proofs.run.Statement.{statement}
 use Rattle.engine.proofs.run.Tie as tie
 
 abbrev Inv-loop2 : tie.InvT-loop2
-Inv-loop2 rows index log from nt s₀ busy listed c at e d n m₀ s m = Ages (tableIn rows index) s₀ d nt s m
+Inv-loop2 rows index log from nt s busy listed c at e d room₀ k₀ room k = Asked (tableIn rows index) s busy d nt room k
 
 abbrev μ-loop2 : tie.MeasureT-loop2
-μ-loop2 rows index log from nt s₀ busy listed c at e d n m₀ s m = nt - m
+μ-loop2 rows index log from nt s busy listed c at e d room₀ k₀ room k = nt - k
 
 abbrev Inv-loop3 : tie.InvT-loop3
-Inv-loop3 rows index log from nt s₀ busy listed₀ c at e st ti x n end a₀ s listed a = Lists rows index st ti a₀ end s₀ s listed a
+Inv-loop3 rows index log from nt s₀ busy listed c at e d room k n m₀ s m = Ages (tableIn rows index) s₀ d nt s m
 
 abbrev μ-loop3 : tie.MeasureT-loop3
-μ-loop3 rows index log from nt s₀ busy listed₀ c at e st ti x n end a₀ s listed a = end - a
+μ-loop3 rows index log from nt s₀ busy listed c at e d room k n m₀ s m = nt - m
+
+abbrev Inv-loop4 : tie.InvT-loop4
+Inv-loop4 rows index log from nt s₀ busy listed₀ c at e st ti x n end a₀ s listed a = Lists rows index st ti a₀ end s₀ s listed a
+
+abbrev μ-loop4 : tie.MeasureT-loop4
+μ-loop4 rows index log from nt s₀ busy listed₀ c at e st ti x n end a₀ s listed a = end - a
 
 abbrev Inv-loop : tie.InvT-loop
 Inv-loop rows index log from nt s₀ busy₀ listed₀ c₀ at₀ s busy listed c at = Plays (tableIn rows index) log from s₀ c₀ s busy listed c at
@@ -38,7 +45,7 @@ abbrev μ-loop : tie.MeasureT-loop
 
 -- The values of a turn, once its step is read, and what each test adds to what is known.
 abbrev scene :
-    (c : tie.After-known-told Inv-loop2 μ-loop2 Inv-loop3 μ-loop3 Inv-loop μ-loop) →
+    (c : tie.After-known-told Inv-loop2 μ-loop2 Inv-loop3 μ-loop3 Inv-loop4 μ-loop4 Inv-loop μ-loop) →
     Scene
 scene c =
     let given = c .before .before .before .before .before .before .before .before .before .before .before .before .before .before .before .args in
@@ -59,53 +66,53 @@ scene c =
     }
 
 turn :
-    (c : tie.After-known-told Inv-loop2 μ-loop2 Inv-loop3 μ-loop3 Inv-loop μ-loop) →
+    (c : tie.After-known-told Inv-loop2 μ-loop2 Inv-loop3 μ-loop3 Inv-loop4 μ-loop4 Inv-loop μ-loop) →
     Turn (scene c)
 turn c = search turn-is
 
 behind-fits :
-    (c : tie.After-known-told Inv-loop2 μ-loop2 Inv-loop3 μ-loop3 Inv-loop μ-loop) →
+    (c : tie.After-known-told Inv-loop2 μ-loop2 Inv-loop3 μ-loop3 Inv-loop4 μ-loop4 Inv-loop μ-loop) →
     c .before .before .before .before .next-byte .result + 1 < 18446744073709551616
 behind-fits c =
     omega (arith, newline-inside (turn c), c .before .before .before .before .before .before .before .before .before .before .before .before .before .before .before .good .1 .1 .0 .0)
 
 falls :
-    (c : tie.After-known-told Inv-loop2 μ-loop2 Inv-loop3 μ-loop3 Inv-loop μ-loop) →
+    (c : tie.After-known-told Inv-loop2 μ-loop2 Inv-loop3 μ-loop3 Inv-loop4 μ-loop4 Inv-loop μ-loop) →
     length (now (c .before .before .before .before .before .before .before .before .before .before .before .before .before .before .before .args .log)) - (c .before .before .before .before .next-byte .result + 1) < length (now (c .before .before .before .before .before .before .before .before .before .before .before .before .before .before .before .args .log)) - c .before .before .before .before .before .before .loop .at
 falls c = less-left (turn c)
 
 counts :
-    (c : tie.After-known-told Inv-loop2 μ-loop2 Inv-loop3 μ-loop3 Inv-loop μ-loop) →
+    (c : tie.After-known-told Inv-loop2 μ-loop2 Inv-loop3 μ-loop3 Inv-loop4 μ-loop4 Inv-loop μ-loop) →
     Roomy (c .before .before .before .before .before .before .loop .c) 1
 counts c = room-for-one (turn c)
 
 waits :
-    (c : tie.After-wait-refusal Inv-loop2 μ-loop2 Inv-loop3 μ-loop3 Inv-loop μ-loop) →
-    Waits (scene (c .before .before .before .before .before)) (c .before .before .ticks-of .result) (c .wait-refusal .result)
+    (c : tie.After-ticks-of Inv-loop2 μ-loop2 Inv-loop3 μ-loop3 Inv-loop4 μ-loop4 Inv-loop μ-loop) →
+    Waits (scene (c .before .before .before)) (c .ticks-of .result)
 waits c = search (turn-waits, turn)
 
 names :
-    (c : tie.Else3 Inv-loop2 μ-loop2 Inv-loop3 μ-loop3 Inv-loop μ-loop) →
+    (c : tie.Else5 Inv-loop2 μ-loop2 Inv-loop3 μ-loop3 Inv-loop4 μ-loop4 Inv-loop μ-loop) →
     Names (scene (c .before .before .before .before))
 names c = search (turn-names, turn)
 
 task-row :
-    (c : tie.After-task-in Inv-loop2 μ-loop2 Inv-loop3 μ-loop3 Inv-loop μ-loop) →
+    (c : tie.After-task-in Inv-loop2 μ-loop2 Inv-loop3 μ-loop3 Inv-loop4 μ-loop4 Inv-loop μ-loop) →
     c .task-in .result < 16
 task-row c = task-cell (names (c .before)) (c .task-in .ensures)
 
 act-row :
-    (c : tie.After-act-in Inv-loop2 μ-loop2 Inv-loop3 μ-loop3 Inv-loop μ-loop) →
+    (c : tie.After-act-in Inv-loop2 μ-loop2 Inv-loop3 μ-loop3 Inv-loop4 μ-loop4 Inv-loop μ-loop) →
     c .act-in .result < 64
 act-row c = act-cell (names (c .before .before .before .before .before)) (c .act-in .ensures)
 
 manages :
-    (c : tie.After-sm-refusal Inv-loop2 μ-loop2 Inv-loop3 μ-loop3 Inv-loop μ-loop) →
+    (c : tie.After-sm-refusal Inv-loop2 μ-loop2 Inv-loop3 μ-loop3 Inv-loop4 μ-loop4 Inv-loop μ-loop) →
     Manages (scene (c .before .before .before .before .before .before .before .before .before)) (c .before .before .before .before .task-in .result) (c .sm-refusal .result)
 manages c = search (turn-manages, names)
 
 steps :
-    (c : tie.After-local-step Inv-loop2 μ-loop2 Inv-loop3 μ-loop3 Inv-loop μ-loop) →
+    (c : tie.After-local-step Inv-loop2 μ-loop2 Inv-loop3 μ-loop3 Inv-loop4 μ-loop4 Inv-loop μ-loop) →
     Steps
     (scene (c .before .before .before .before .before .before .before .before .before .before .before .before .before .before))
     (c .before .before .before .before .before .before .before .before .before .task-in .result)
@@ -114,7 +121,7 @@ steps :
 steps c = search (turn-steps, names)
 
 goes :
-    (c : tie.After-after-step Inv-loop2 μ-loop2 Inv-loop3 μ-loop3 Inv-loop μ-loop) →
+    (c : tie.After-after-step Inv-loop2 μ-loop2 Inv-loop3 μ-loop3 Inv-loop4 μ-loop4 Inv-loop μ-loop) →
     Stored
     (scene (c .before .before .before .before .before .before .before .before .before .before .before .before .before .before .before .before .before .before .before .before .before))
     (c .before .before .before .before .before .before .before .before .before .before .before .before .before .before .before .before .task-in .result)
@@ -126,308 +133,359 @@ goes :
     (c .before .ruling-of .result)
 goes c = search (step-goes, steps)
 
-tasks-requires : tie.Need-tasks-requires Inv-loop2 μ-loop2 Inv-loop3 μ-loop3 Inv-loop μ-loop
+tasks-requires : tie.Need-tasks-requires Inv-loop2 μ-loop2 Inv-loop3 μ-loop3 Inv-loop4 μ-loop4 Inv-loop μ-loop
 tasks-requires c κs = search needs
 
-loop-holds : tie.Need-loop-holds Inv-loop2 μ-loop2 Inv-loop3 μ-loop3 Inv-loop μ-loop
+loop-holds : tie.Need-loop-holds Inv-loop2 μ-loop2 Inv-loop3 μ-loop3 Inv-loop4 μ-loop4 Inv-loop μ-loop
 loop-holds c = search (run-starts, rows-long)
 
-next-byte-requires : tie.Need-next-byte-requires Inv-loop2 μ-loop2 Inv-loop3 μ-loop3 Inv-loop μ-loop
+next-byte-requires : tie.Need-next-byte-requires Inv-loop2 μ-loop2 Inv-loop3 μ-loop3 Inv-loop4 μ-loop4 Inv-loop μ-loop
 next-byte-requires c κs = search needs
 
-line-at-requires : tie.Need-line-at-requires Inv-loop2 μ-loop2 Inv-loop3 μ-loop3 Inv-loop μ-loop
+line-at-requires : tie.Need-line-at-requires Inv-loop2 μ-loop2 Inv-loop3 μ-loop3 Inv-loop4 μ-loop4 Inv-loop μ-loop
 line-at-requires c κs = (search part-starts, search part-ends)
 
-enum-known-st : tie.Need-enum-known-st Inv-loop2 μ-loop2 Inv-loop3 μ-loop3 Inv-loop μ-loop
+enum-known-st : tie.Need-enum-known-st Inv-loop2 μ-loop2 Inv-loop3 μ-loop3 Inv-loop4 μ-loop4 Inv-loop μ-loop
 enum-known-st c = search needs
 
-enum-told : tie.Need-enum-told Inv-loop2 μ-loop2 Inv-loop3 μ-loop3 Inv-loop μ-loop
+enum-told : tie.Need-enum-told Inv-loop2 μ-loop2 Inv-loop3 μ-loop3 Inv-loop4 μ-loop4 Inv-loop μ-loop
 enum-told c = search needs
 
-left-at-requires : tie.Need-left-at-requires Inv-loop2 μ-loop2 Inv-loop3 μ-loop3 Inv-loop μ-loop
+left-at-requires : tie.Need-left-at-requires Inv-loop2 μ-loop2 Inv-loop3 μ-loop3 Inv-loop4 μ-loop4 Inv-loop μ-loop
 left-at-requires c κs = search needs
 
-returns : tie.Need-returns Inv-loop2 μ-loop2 Inv-loop3 μ-loop3 Inv-loop μ-loop
+returns : tie.Need-returns Inv-loop2 μ-loop2 Inv-loop3 μ-loop3 Inv-loop4 μ-loop4 Inv-loop μ-loop
 returns c = search run-bad
 
-is-wait-requires : tie.Need-is-wait-requires Inv-loop2 μ-loop2 Inv-loop3 μ-loop3 Inv-loop μ-loop
+is-wait-requires : tie.Need-is-wait-requires Inv-loop2 μ-loop2 Inv-loop3 μ-loop3 Inv-loop4 μ-loop4 Inv-loop μ-loop
 is-wait-requires c κs = search needs
 
-ticks-of-requires : tie.Need-ticks-of-requires Inv-loop2 μ-loop2 Inv-loop3 μ-loop3 Inv-loop μ-loop
+ticks-of-requires : tie.Need-ticks-of-requires Inv-loop2 μ-loop2 Inv-loop3 μ-loop3 Inv-loop4 μ-loop4 Inv-loop μ-loop
 ticks-of-requires c κs = search needs
 
-slice-aggregate-wait-refusal : tie.Need-slice-aggregate-wait-refusal Inv-loop2 μ-loop2 Inv-loop3 μ-loop3 Inv-loop μ-loop
-slice-aggregate-wait-refusal c = search busy-sized
+in-range-requires : tie.Need-in-range-requires Inv-loop2 μ-loop2 Inv-loop3 μ-loop3 Inv-loop4 μ-loop4 Inv-loop μ-loop
+in-range-requires c κs = search needs
 
-wait-refusal-requires : tie.Need-wait-refusal-requires Inv-loop2 μ-loop2 Inv-loop3 μ-loop3 Inv-loop μ-loop
-wait-refusal-requires c κs = let Z = turn (c .before .before .before .before) in (Z .prepared, of-sound _ _ (sound-here Z), here Z .busy)
-
-left-at-requires-2 : tie.Need-left-at-requires-2 Inv-loop2 μ-loop2 Inv-loop3 μ-loop3 Inv-loop μ-loop
+left-at-requires-2 : tie.Need-left-at-requires-2 Inv-loop2 μ-loop2 Inv-loop3 μ-loop3 Inv-loop4 μ-loop4 Inv-loop μ-loop
 left-at-requires-2 c κs = search needs
 
-returns-2 : tie.Need-returns-2 Inv-loop2 μ-loop2 Inv-loop3 μ-loop3 Inv-loop μ-loop
-returns-2 c = search (wait-stops (waits (c .before .before)))
+returns-2 : tie.Need-returns-2 Inv-loop2 μ-loop2 Inv-loop3 μ-loop3 Inv-loop4 μ-loop4 Inv-loop μ-loop
+returns-2 c = search (wait-stops (waits (c .before .before .before)) 12 (λ z. omega arith), wait-range)
 
-loop2-holds : tie.Need-loop2-holds Inv-loop2 μ-loop2 Inv-loop3 μ-loop3 Inv-loop μ-loop
-loop2-holds c = search (ages-none (waits (c .before)))
+loop2-holds : tie.Need-loop2-holds Inv-loop2 μ-loop2 Inv-loop3 μ-loop3 Inv-loop4 μ-loop4 Inv-loop μ-loop
+loop2-holds c = search (asks-none (waits (c .before .before)))
 
-mul-x : tie.Need-mul-x Inv-loop2 μ-loop2 Inv-loop3 μ-loop3 Inv-loop μ-loop
+mul-x : tie.Need-mul-x Inv-loop2 μ-loop2 Inv-loop3 μ-loop3 Inv-loop4 μ-loop4 Inv-loop μ-loop
 mul-x c = search (needs, task-fits)
 
-element-copy-out-x : tie.Need-element-copy-out-x Inv-loop2 μ-loop2 Inv-loop3 μ-loop3 Inv-loop μ-loop
+element-copy-out-x : tie.Need-element-copy-out-x Inv-loop2 μ-loop2 Inv-loop3 μ-loop3 Inv-loop4 μ-loop4 Inv-loop μ-loop
 element-copy-out-x c = search task-fits
 
-add-late : tie.Need-add-late Inv-loop2 μ-loop2 Inv-loop3 μ-loop3 Inv-loop μ-loop
-add-late c = omega (arith, timer-small (c .before .before .before .loop2 .inv) (c .before .before .loop2-test .taken), ticks-fit (c .before .before .before .loop2 .inv))
+held-in-requires : tie.Need-held-in-requires Inv-loop2 μ-loop2 Inv-loop3 μ-loop3 Inv-loop4 μ-loop4 Inv-loop μ-loop
+held-in-requires c κs = search needs
 
-mul-s : tie.Need-mul-s Inv-loop2 μ-loop2 Inv-loop3 μ-loop3 Inv-loop μ-loop
-mul-s c = search (needs, task-fits)
+mul-y : tie.Need-mul-y Inv-loop2 μ-loop2 Inv-loop3 μ-loop3 Inv-loop4 μ-loop4 Inv-loop μ-loop
+mul-y c = omega (arith, held-fits (c .before .before .before .loop2 .inv .asks) (c .before .before .loop2-test .taken) (c .held-in .ensures))
 
-way-write-given-s : tie.Need-way-write-given-s Inv-loop2 μ-loop2 Inv-loop3 μ-loop3 Inv-loop μ-loop
-way-write-given-s c = search (task-fits, tt)
+element-copy-out-y : tie.Need-element-copy-out-y Inv-loop2 μ-loop2 Inv-loop3 μ-loop3 Inv-loop4 μ-loop4 Inv-loop μ-loop
+element-copy-out-y c = search held-fits
 
-add-m : tie.Need-add-m Inv-loop2 μ-loop2 Inv-loop3 μ-loop3 Inv-loop μ-loop
-add-m c = search (needs, task-fits)
+slice-aggregate-hinders : tie.Need-slice-aggregate-hinders Inv-loop2 μ-loop2 Inv-loop3 μ-loop3 Inv-loop4 μ-loop4 Inv-loop μ-loop
+slice-aggregate-hinders c = search busy-sized
 
-enum-told-2 : tie.Need-enum-told-2 Inv-loop2 μ-loop2 Inv-loop3 μ-loop3 Inv-loop μ-loop
-enum-told-2 c = search needs
+hinders-requires : tie.Need-hinders-requires Inv-loop2 μ-loop2 Inv-loop3 μ-loop3 Inv-loop4 μ-loop4 Inv-loop μ-loop
+hinders-requires c κs = (search needs, search place-known, asked-long (c .before .before .before .before .before .loop2 .inv))
 
-loop2-less : tie.Need-loop2-less Inv-loop2 μ-loop2 Inv-loop3 μ-loop3 Inv-loop μ-loop
-loop2-less c = search needs
-
-loop2-again : tie.Need-loop2-again Inv-loop2 μ-loop2 Inv-loop3 μ-loop3 Inv-loop μ-loop
-loop2-again c = search ages-manager
-
-enum-known-h : tie.Need-enum-known-h Inv-loop2 μ-loop2 Inv-loop3 μ-loop3 Inv-loop μ-loop
-enum-known-h c = search needs
-
-mul-y : tie.Need-mul-y Inv-loop2 μ-loop2 Inv-loop3 μ-loop3 Inv-loop μ-loop
-mul-y c = omega (arith, holder-fits (c .before .before .before .before .before .before .before .loop2 .inv) (c .before .before .before .before .before .before .loop2-test .taken) _ (c .before .h .given .1))
-
-element-copy-out-y : tie.Need-element-copy-out-y Inv-loop2 μ-loop2 Inv-loop3 μ-loop3 Inv-loop μ-loop
-element-copy-out-y c = search holder-fits
-
-older-clock-requires : tie.Need-older-clock-requires Inv-loop2 μ-loop2 Inv-loop3 μ-loop3 Inv-loop μ-loop
-older-clock-requires c κs = (search clock-small, search ticks-fit)
-
-mul-s-2 : tie.Need-mul-s-2 Inv-loop2 μ-loop2 Inv-loop3 μ-loop3 Inv-loop μ-loop
-mul-s-2 c = omega (arith, holder-fits (c .before .before .before .before .before .before .before .before .before .loop2 .inv) (c .before .before .before .before .before .before .before .before .loop2-test .taken) _ (c .before .before .before .h .given .1))
-
-way-write-given-s-2 : tie.Need-way-write-given-s-2 Inv-loop2 μ-loop2 Inv-loop3 μ-loop3 Inv-loop μ-loop
-way-write-given-s-2 c = search (holder-fits, tt)
-
-loop2-less-2 : tie.Need-loop2-less-2 Inv-loop2 μ-loop2 Inv-loop3 μ-loop3 Inv-loop μ-loop
-loop2-less-2 c = search needs
-
-loop2-again-2 : tie.Need-loop2-again-2 Inv-loop2 μ-loop2 Inv-loop3 μ-loop3 Inv-loop μ-loop
-loop2-again-2 c = search ages-activity
-
-add-s : tie.Need-add-s Inv-loop2 μ-loop2 Inv-loop3 μ-loop3 Inv-loop μ-loop
-add-s c = omega (arith, date-fits (c .before .loop2 .inv), ticks-fit (c .before .loop2 .inv))
-
-after-wait-requires : tie.Need-after-wait-requires Inv-loop2 μ-loop2 Inv-loop3 μ-loop3 Inv-loop μ-loop
-after-wait-requires c κs = search counts
-
-add-at : tie.Need-add-at Inv-loop2 μ-loop2 Inv-loop3 μ-loop3 Inv-loop μ-loop
-add-at c = record { fits = search behind-fits }
-
-loop-less : tie.Need-loop-less Inv-loop2 μ-loop2 Inv-loop3 μ-loop3 Inv-loop μ-loop
-loop-less c = search falls
-
-loop-again : tie.Need-loop-again Inv-loop2 μ-loop2 Inv-loop3 μ-loop3 Inv-loop μ-loop
-loop-again c = search (wait-on (waits (c .before .before .before .before)))
-
-rows-exist-requires : tie.Need-rows-exist-requires Inv-loop2 μ-loop2 Inv-loop3 μ-loop3 Inv-loop μ-loop
-rows-exist-requires c κs = search needs
-
-left-at-requires-3 : tie.Need-left-at-requires-3 Inv-loop2 μ-loop2 Inv-loop3 μ-loop3 Inv-loop μ-loop
+left-at-requires-3 : tie.Need-left-at-requires-3 Inv-loop2 μ-loop2 Inv-loop3 μ-loop3 Inv-loop4 μ-loop4 Inv-loop μ-loop
 left-at-requires-3 c κs = search needs
 
-returns-3 : tie.Need-returns-3 Inv-loop2 μ-loop2 Inv-loop3 μ-loop3 Inv-loop μ-loop
-returns-3 c = search (rows-missing (turn (c .before .before .before .before .before)))
+returns-3 : tie.Need-returns-3 Inv-loop2 μ-loop2 Inv-loop3 μ-loop3 Inv-loop4 μ-loop4 Inv-loop μ-loop
+returns-3 c = search (wait-stops (waits (c .before .before .before .before .before .before .before .before .before .before .before)) 16 (λ z. omega arith), wait-hindered)
 
-task-in-requires : tie.Need-task-in-requires Inv-loop2 μ-loop2 Inv-loop3 μ-loop3 Inv-loop μ-loop
-task-in-requires c κs = search (names c)
+has-room-requires : tie.Need-has-room-requires Inv-loop2 μ-loop2 Inv-loop3 μ-loop3 Inv-loop4 μ-loop4 Inv-loop μ-loop
+has-room-requires c κs = (search needs, omega arith, search place-known, search clock-fits, search timer-fits, search ticks-fit)
 
-mul-x-2 : tie.Need-mul-x-2 Inv-loop2 μ-loop2 Inv-loop3 μ-loop3 Inv-loop μ-loop
-mul-x-2 c = omega (arith, task-row c)
+both-requires : tie.Need-both-requires Inv-loop2 μ-loop2 Inv-loop3 μ-loop3 Inv-loop4 μ-loop4 Inv-loop μ-loop
+both-requires c κs = search needs
 
-element-copy-out-x-2 : tie.Need-element-copy-out-x-2 Inv-loop2 μ-loop2 Inv-loop3 μ-loop3 Inv-loop μ-loop
-element-copy-out-x-2 c = search task-row
+add-k : tie.Need-add-k Inv-loop2 μ-loop2 Inv-loop3 μ-loop3 Inv-loop4 μ-loop4 Inv-loop μ-loop
+add-k c = search (needs, task-fits)
 
-is-sm-requires : tie.Need-is-sm-requires Inv-loop2 μ-loop2 Inv-loop3 μ-loop3 Inv-loop μ-loop
-is-sm-requires c κs = search needs
+loop2-less : tie.Need-loop2-less Inv-loop2 μ-loop2 Inv-loop3 μ-loop3 Inv-loop4 μ-loop4 Inv-loop μ-loop
+loop2-less c = search needs
 
-sm-refusal-requires : tie.Need-sm-refusal-requires Inv-loop2 μ-loop2 Inv-loop3 μ-loop3 Inv-loop μ-loop
-sm-refusal-requires c κs = search (names (c .before .before .before .before))
+loop2-again : tie.Need-loop2-again Inv-loop2 μ-loop2 Inv-loop3 μ-loop3 Inv-loop4 μ-loop4 Inv-loop μ-loop
+loop2-again c = asked-more (c .before .before .before .before .before .before .before .before .before .loop2 .inv) (c .before .before .before .before .before .before .before .before .loop2-test .taken) _ (c .before .before .before .before .before .before .held-in .ensures) _ (c .before .before .before .hinders .ensures) (c .before .before .if3 .left) _ (c .before .has-room .ensures) _ (c .both .ensures)
 
-left-at-requires-4 : tie.Need-left-at-requires-4 Inv-loop2 μ-loop2 Inv-loop3 μ-loop3 Inv-loop μ-loop
+wait-number-requires : tie.Need-wait-number-requires Inv-loop2 μ-loop2 Inv-loop3 μ-loop3 Inv-loop4 μ-loop4 Inv-loop μ-loop
+wait-number-requires c κs = (omega (arith, c .before .loop2 .inv .asks .sound .date), search ticks-fit)
+
+left-at-requires-4 : tie.Need-left-at-requires-4 Inv-loop2 μ-loop2 Inv-loop3 μ-loop3 Inv-loop4 μ-loop4 Inv-loop μ-loop
 left-at-requires-4 c κs = search needs
 
-returns-4 : tie.Need-returns-4 Inv-loop2 μ-loop2 Inv-loop3 μ-loop3 Inv-loop μ-loop
-returns-4 c = search (sm-stops (manages (c .before .before)))
+returns-4 : tie.Need-returns-4 Inv-loop2 μ-loop2 Inv-loop3 μ-loop3 Inv-loop4 μ-loop4 Inv-loop μ-loop
+returns-4 c = search (wait-stops (waits (c .before .before .before .before .before .before .before)), wait-numbered)
 
-acts-end-requires : tie.Need-acts-end-requires Inv-loop2 μ-loop2 Inv-loop3 μ-loop3 Inv-loop μ-loop
-acts-end-requires c κs = let M = manages (c .before) in (M .names .turn .prepared, managed-there M)
+loop3-holds : tie.Need-loop3-holds Inv-loop2 μ-loop2 Inv-loop3 μ-loop3 Inv-loop4 μ-loop4 Inv-loop μ-loop
+loop3-holds c = search ages-none
 
-acts-begin-requires : tie.Need-acts-begin-requires Inv-loop2 μ-loop2 Inv-loop3 μ-loop3 Inv-loop μ-loop
-acts-begin-requires c κs = let M = manages (c .before .before) in (M .names .turn .prepared, managed-there M)
+mul-x-2 : tie.Need-mul-x-2 Inv-loop2 μ-loop2 Inv-loop3 μ-loop3 Inv-loop4 μ-loop4 Inv-loop μ-loop
+mul-x-2 c = search (needs, task-fits)
 
-loop3-holds : tie.Need-loop3-holds Inv-loop2 μ-loop2 Inv-loop3 μ-loop3 Inv-loop μ-loop
-loop3-holds c = search (lists-none (manages (c .before .before .before)))
+element-copy-out-x-2 : tie.Need-element-copy-out-x-2 Inv-loop2 μ-loop2 Inv-loop3 μ-loop3 Inv-loop4 μ-loop4 Inv-loop μ-loop
+element-copy-out-x-2 c = search task-fits
 
-mul-y-2 : tie.Need-mul-y-2 Inv-loop2 μ-loop2 Inv-loop3 μ-loop3 Inv-loop μ-loop
-mul-y-2 c = omega (arith, listed-fits (c .before .loop3 .inv) (c .loop3-test .taken))
+add-late : tie.Need-add-late Inv-loop2 μ-loop2 Inv-loop3 μ-loop3 Inv-loop4 μ-loop4 Inv-loop μ-loop
+add-late c = omega (arith, timer-small (c .before .before .before .loop3 .inv) (c .before .before .loop3-test .taken), ticks-fit (c .before .before .before .loop3 .inv .asks))
 
-element-copy-out-y-2 : tie.Need-element-copy-out-y-2 Inv-loop2 μ-loop2 Inv-loop3 μ-loop3 Inv-loop μ-loop
-element-copy-out-y-2 c = search listed-fits
+mul-s : tie.Need-mul-s Inv-loop2 μ-loop2 Inv-loop3 μ-loop3 Inv-loop4 μ-loop4 Inv-loop μ-loop
+mul-s c = search (needs, task-fits)
 
-flag-requires : tie.Need-flag-requires Inv-loop2 μ-loop2 Inv-loop3 μ-loop3 Inv-loop μ-loop
-flag-requires c κs = search listed-fits
+way-write-given-s : tie.Need-way-write-given-s Inv-loop2 μ-loop2 Inv-loop3 μ-loop3 Inv-loop4 μ-loop4 Inv-loop μ-loop
+way-write-given-s c = search (task-fits, tt)
 
-mul-v : tie.Need-mul-v Inv-loop2 μ-loop2 Inv-loop3 μ-loop3 Inv-loop μ-loop
-mul-v c = omega (arith, listed-fits (c .before .before .before .loop3 .inv) (c .before .before .loop3-test .taken))
+add-m : tie.Need-add-m Inv-loop2 μ-loop2 Inv-loop3 μ-loop3 Inv-loop4 μ-loop4 Inv-loop μ-loop
+add-m c = search (needs, task-fits)
 
-element-set-from-v : tie.Need-element-set-from-v Inv-loop2 μ-loop2 Inv-loop3 μ-loop3 Inv-loop μ-loop
-element-set-from-v c = search listed-fits
+enum-told-2 : tie.Need-enum-told-2 Inv-loop2 μ-loop2 Inv-loop3 μ-loop3 Inv-loop4 μ-loop4 Inv-loop μ-loop
+enum-told-2 c = search needs
 
-listed-of-requires : tie.Need-listed-of-requires Inv-loop2 μ-loop2 Inv-loop3 μ-loop3 Inv-loop μ-loop
-listed-of-requires c κs = search needs
-
-mul-listed : tie.Need-mul-listed Inv-loop2 μ-loop2 Inv-loop3 μ-loop3 Inv-loop μ-loop
-mul-listed c = omega (arith, listed-fits (c .before .before .before .before .loop3 .inv) (c .before .before .before .loop3-test .taken))
-
-array-write-listed : tie.Need-array-write-listed Inv-loop2 μ-loop2 Inv-loop3 μ-loop3 Inv-loop μ-loop
-array-write-listed c = search listed-fits
-
-add-a : tie.Need-add-a Inv-loop2 μ-loop2 Inv-loop3 μ-loop3 Inv-loop μ-loop
-add-a c = search (needs, listed-fits)
-
-loop3-less : tie.Need-loop3-less Inv-loop2 μ-loop2 Inv-loop3 μ-loop3 Inv-loop μ-loop
+loop3-less : tie.Need-loop3-less Inv-loop2 μ-loop2 Inv-loop3 μ-loop3 Inv-loop4 μ-loop4 Inv-loop μ-loop
 loop3-less c = search needs
 
-loop3-again : tie.Need-loop3-again Inv-loop2 μ-loop2 Inv-loop3 μ-loop3 Inv-loop μ-loop
-loop3-again c = search lists-more
+loop3-again : tie.Need-loop3-again Inv-loop2 μ-loop2 Inv-loop3 μ-loop3 Inv-loop4 μ-loop4 Inv-loop μ-loop
+loop3-again c = search ages-manager
 
-opened-task-requires : tie.Need-opened-task-requires Inv-loop2 μ-loop2 Inv-loop3 μ-loop3 Inv-loop μ-loop
-opened-task-requires c κs = search (cycle-small (names (c .before .before .before .before .before .before .before .before .before .before)))
+enum-known-h : tie.Need-enum-known-h Inv-loop2 μ-loop2 Inv-loop3 μ-loop3 Inv-loop4 μ-loop4 Inv-loop μ-loop
+enum-known-h c = search needs
 
-mul-u : tie.Need-mul-u Inv-loop2 μ-loop2 Inv-loop3 μ-loop3 Inv-loop μ-loop
-mul-u c = omega (arith, task-row (c .before .before .before .before .before .before .before .before .before .before))
+mul-y-2 : tie.Need-mul-y-2 Inv-loop2 μ-loop2 Inv-loop3 μ-loop3 Inv-loop4 μ-loop4 Inv-loop μ-loop
+mul-y-2 c = omega (arith, holder-fits (c .before .before .before .before .before .before .before .loop3 .inv) (c .before .before .before .before .before .before .loop3-test .taken) _ (c .before .h .given .1))
 
-element-set-from-u : tie.Need-element-set-from-u Inv-loop2 μ-loop2 Inv-loop3 μ-loop3 Inv-loop μ-loop
-element-set-from-u c = search task-row
+element-copy-out-y-2 : tie.Need-element-copy-out-y-2 Inv-loop2 μ-loop2 Inv-loop3 μ-loop3 Inv-loop4 μ-loop4 Inv-loop μ-loop
+element-copy-out-y-2 c = search holder-fits
 
-after-sm-requires : tie.Need-after-sm-requires Inv-loop2 μ-loop2 Inv-loop3 μ-loop3 Inv-loop μ-loop
-after-sm-requires c κs = search counts
+older-clock-requires : tie.Need-older-clock-requires Inv-loop2 μ-loop2 Inv-loop3 μ-loop3 Inv-loop4 μ-loop4 Inv-loop μ-loop
+older-clock-requires c κs = (search clock-small, search ticks-fit)
 
-add-at-2 : tie.Need-add-at-2 Inv-loop2 μ-loop2 Inv-loop3 μ-loop3 Inv-loop μ-loop
-add-at-2 c = record { fits = search behind-fits }
+mul-s-2 : tie.Need-mul-s-2 Inv-loop2 μ-loop2 Inv-loop3 μ-loop3 Inv-loop4 μ-loop4 Inv-loop μ-loop
+mul-s-2 c = omega (arith, holder-fits (c .before .before .before .before .before .before .before .before .before .loop3 .inv) (c .before .before .before .before .before .before .before .before .loop3-test .taken) _ (c .before .before .before .h .given .1))
 
-loop-less-2 : tie.Need-loop-less-2 Inv-loop2 μ-loop2 Inv-loop3 μ-loop3 Inv-loop μ-loop
-loop-less-2 c = search falls
+way-write-given-s-2 : tie.Need-way-write-given-s-2 Inv-loop2 μ-loop2 Inv-loop3 μ-loop3 Inv-loop4 μ-loop4 Inv-loop μ-loop
+way-write-given-s-2 c = search (holder-fits, tt)
 
-loop-again-2 : tie.Need-loop-again-2 Inv-loop2 μ-loop2 Inv-loop3 μ-loop3 Inv-loop μ-loop
-loop-again-2 c = search (sm-on (manages (c .before .before .before .before .before .before .before)))
+loop3-less-2 : tie.Need-loop3-less-2 Inv-loop2 μ-loop2 Inv-loop3 μ-loop3 Inv-loop4 μ-loop4 Inv-loop μ-loop
+loop3-less-2 c = search needs
 
-act-in-requires : tie.Need-act-in-requires Inv-loop2 μ-loop2 Inv-loop3 μ-loop3 Inv-loop μ-loop
-act-in-requires c κs = search needs
+loop3-again-2 : tie.Need-loop3-again-2 Inv-loop2 μ-loop2 Inv-loop3 μ-loop3 Inv-loop4 μ-loop4 Inv-loop μ-loop
+loop3-again-2 c = search ages-activity
 
-mul-y-3 : tie.Need-mul-y-3 Inv-loop2 μ-loop2 Inv-loop3 μ-loop3 Inv-loop μ-loop
-mul-y-3 c = omega (arith, act-row c)
+add-s : tie.Need-add-s Inv-loop2 μ-loop2 Inv-loop3 μ-loop3 Inv-loop4 μ-loop4 Inv-loop μ-loop
+add-s c = omega (arith, date-fits (c .before .loop3 .inv), ticks-fit (c .before .loop3 .inv .asks))
 
-element-copy-out-y-3 : tie.Need-element-copy-out-y-3 Inv-loop2 μ-loop2 Inv-loop3 μ-loop3 Inv-loop μ-loop
-element-copy-out-y-3 c = search act-row
+after-wait-requires : tie.Need-after-wait-requires Inv-loop2 μ-loop2 Inv-loop3 μ-loop3 Inv-loop4 μ-loop4 Inv-loop μ-loop
+after-wait-requires c κs = search counts
 
-slice-aggregate-aside-of : tie.Need-slice-aggregate-aside-of Inv-loop2 μ-loop2 Inv-loop3 μ-loop3 Inv-loop μ-loop
-slice-aggregate-aside-of c = search busy-sized
+add-at : tie.Need-add-at Inv-loop2 μ-loop2 Inv-loop3 μ-loop3 Inv-loop4 μ-loop4 Inv-loop μ-loop
+add-at c = record { fits = search behind-fits }
 
-slice-aggregate-aside-of-2 : tie.Need-slice-aggregate-aside-of-2 Inv-loop2 μ-loop2 Inv-loop3 μ-loop3 Inv-loop μ-loop
-slice-aggregate-aside-of-2 c = search listed-sized
+loop-less : tie.Need-loop-less Inv-loop2 μ-loop2 Inv-loop3 μ-loop3 Inv-loop4 μ-loop4 Inv-loop μ-loop
+loop-less c = search falls
 
-aside-of-requires : tie.Need-aside-of-requires Inv-loop2 μ-loop2 Inv-loop3 μ-loop3 Inv-loop μ-loop
-aside-of-requires c κs = let N = names (c .before .before .before .before .before .before .before .before) in (N .turn .prepared, N .named, place-there N _, busy-long N, listed-long N)
+loop-again : tie.Need-loop-again Inv-loop2 μ-loop2 Inv-loop3 μ-loop3 Inv-loop4 μ-loop4 Inv-loop μ-loop
+loop-again c = search (wait-on (waits (c .before .before .before .before .before .before .before .before .before)), wait-numbered)
 
-local-step-requires : tie.Need-local-step-requires Inv-loop2 μ-loop2 Inv-loop3 μ-loop3 Inv-loop μ-loop
-local-step-requires c κs = let N = names (c .before .before .before .before .before .before .before .before .before) in (N .turn .prepared, N .named, place-there N _, search (missed-small N))
+rows-exist-requires : tie.Need-rows-exist-requires Inv-loop2 μ-loop2 Inv-loop3 μ-loop3 Inv-loop4 μ-loop4 Inv-loop μ-loop
+rows-exist-requires c κs = search needs
 
-left-at-requires-5 : tie.Need-left-at-requires-5 Inv-loop2 μ-loop2 Inv-loop3 μ-loop3 Inv-loop μ-loop
+left-at-requires-5 : tie.Need-left-at-requires-5 Inv-loop2 μ-loop2 Inv-loop3 μ-loop3 Inv-loop4 μ-loop4 Inv-loop μ-loop
 left-at-requires-5 c κs = search needs
 
-returns-5 : tie.Need-returns-5 Inv-loop2 μ-loop2 Inv-loop3 μ-loop3 Inv-loop μ-loop
-returns-5 c = search (step-stops (steps (c .before .before)))
+returns-5 : tie.Need-returns-5 Inv-loop2 μ-loop2 Inv-loop3 μ-loop3 Inv-loop4 μ-loop4 Inv-loop μ-loop
+returns-5 c = search (rows-missing (turn (c .before .before .before .before .before)))
 
-mul-u-2 : tie.Need-mul-u-2 Inv-loop2 μ-loop2 Inv-loop3 μ-loop3 Inv-loop μ-loop
-mul-u-2 c = omega (arith, task-row (c .before .before .before .before .before .before .before .before .before .before .before .before))
+task-in-requires : tie.Need-task-in-requires Inv-loop2 μ-loop2 Inv-loop3 μ-loop3 Inv-loop4 μ-loop4 Inv-loop μ-loop
+task-in-requires c κs = search (names c)
 
-element-set-from-u-2 : tie.Need-element-set-from-u-2 Inv-loop2 μ-loop2 Inv-loop3 μ-loop3 Inv-loop μ-loop
-element-set-from-u-2 c = search task-row
+mul-x-3 : tie.Need-mul-x-3 Inv-loop2 μ-loop2 Inv-loop3 μ-loop3 Inv-loop4 μ-loop4 Inv-loop μ-loop
+mul-x-3 c = omega (arith, task-row c)
 
-mul-v-2 : tie.Need-mul-v-2 Inv-loop2 μ-loop2 Inv-loop3 μ-loop3 Inv-loop μ-loop
-mul-v-2 c = omega (arith, act-row (c .before .before .before .before .before .before .before .before))
+element-copy-out-x-3 : tie.Need-element-copy-out-x-3 Inv-loop2 μ-loop2 Inv-loop3 μ-loop3 Inv-loop4 μ-loop4 Inv-loop μ-loop
+element-copy-out-x-3 c = search task-row
 
-element-set-from-v-2 : tie.Need-element-set-from-v-2 Inv-loop2 μ-loop2 Inv-loop3 μ-loop3 Inv-loop μ-loop
-element-set-from-v-2 c = search act-row
+is-sm-requires : tie.Need-is-sm-requires Inv-loop2 μ-loop2 Inv-loop3 μ-loop3 Inv-loop4 μ-loop4 Inv-loop μ-loop
+is-sm-requires c κs = search needs
 
-busy-of-requires : tie.Need-busy-of-requires Inv-loop2 μ-loop2 Inv-loop3 μ-loop3 Inv-loop μ-loop
-busy-of-requires c κs = search needs
+sm-refusal-requires : tie.Need-sm-refusal-requires Inv-loop2 μ-loop2 Inv-loop3 μ-loop3 Inv-loop4 μ-loop4 Inv-loop μ-loop
+sm-refusal-requires c κs = search (names (c .before .before .before .before))
 
-mul-busy : tie.Need-mul-busy Inv-loop2 μ-loop2 Inv-loop3 μ-loop3 Inv-loop μ-loop
-mul-busy c = omega (arith, act-row (c .before .before .before .before .before .before .before .before .before))
-
-array-write-busy : tie.Need-array-write-busy Inv-loop2 μ-loop2 Inv-loop3 μ-loop3 Inv-loop μ-loop
-array-write-busy c = search act-row
-
-listed-of-requires-2 : tie.Need-listed-of-requires-2 Inv-loop2 μ-loop2 Inv-loop3 μ-loop3 Inv-loop μ-loop
-listed-of-requires-2 c κs = search needs
-
-mul-listed-2 : tie.Need-mul-listed-2 Inv-loop2 μ-loop2 Inv-loop3 μ-loop3 Inv-loop μ-loop
-mul-listed-2 c = omega (arith, act-row (c .before .before .before .before .before .before .before .before .before .before))
-
-array-write-listed-2 : tie.Need-array-write-listed-2 Inv-loop2 μ-loop2 Inv-loop3 μ-loop3 Inv-loop μ-loop
-array-write-listed-2 c = search act-row
-
-ruling-of-requires : tie.Need-ruling-of-requires Inv-loop2 μ-loop2 Inv-loop3 μ-loop3 Inv-loop μ-loop
-ruling-of-requires c κs = let N = names (c .before .before .before .before .before .before .before .before .before .before .before .before .before .before .before) in (N .turn .prepared, N .named, search (opened-before N))
-
-after-step-requires : tie.Need-after-step-requires Inv-loop2 μ-loop2 Inv-loop3 μ-loop3 Inv-loop μ-loop
-after-step-requires c κs = search counts
-
-add-at-3 : tie.Need-add-at-3 Inv-loop2 μ-loop2 Inv-loop3 μ-loop3 Inv-loop μ-loop
-add-at-3 c = record { fits = search behind-fits }
-
-enum-told-3 : tie.Need-enum-told-3 Inv-loop2 μ-loop2 Inv-loop3 μ-loop3 Inv-loop μ-loop
-enum-told-3 c = search needs
-
-loop-less-3 : tie.Need-loop-less-3 Inv-loop2 μ-loop2 Inv-loop3 μ-loop3 Inv-loop μ-loop
-loop-less-3 c = search falls
-
-loop-again-3 : tie.Need-loop-again-3 Inv-loop2 μ-loop2 Inv-loop3 μ-loop3 Inv-loop μ-loop
-loop-again-3 c = search (turn-open (goes (c .before .before)))
-
-enum-known-w : tie.Need-enum-known-w Inv-loop2 μ-loop2 Inv-loop3 μ-loop3 Inv-loop μ-loop
-enum-known-w c = search needs
-
-left-at-requires-6 : tie.Need-left-at-requires-6 Inv-loop2 μ-loop2 Inv-loop3 μ-loop3 Inv-loop μ-loop
+left-at-requires-6 : tie.Need-left-at-requires-6 Inv-loop2 μ-loop2 Inv-loop3 μ-loop3 Inv-loop4 μ-loop4 Inv-loop μ-loop
 left-at-requires-6 c κs = search needs
 
-returns-6 : tie.Need-returns-6 Inv-loop2 μ-loop2 Inv-loop3 μ-loop3 Inv-loop μ-loop
-returns-6 c = search (turn-kept (goes (c .before .before .before .before)))
+returns-6 : tie.Need-returns-6 Inv-loop2 μ-loop2 Inv-loop3 μ-loop3 Inv-loop4 μ-loop4 Inv-loop μ-loop
+returns-6 c = search (sm-stops (manages (c .before .before)))
 
-enum-told-4 : tie.Need-enum-told-4 Inv-loop2 μ-loop2 Inv-loop3 μ-loop3 Inv-loop μ-loop
-enum-told-4 c = search needs
+acts-end-requires : tie.Need-acts-end-requires Inv-loop2 μ-loop2 Inv-loop3 μ-loop3 Inv-loop4 μ-loop4 Inv-loop μ-loop
+acts-end-requires c κs = let M = manages (c .before) in (M .names .turn .prepared, managed-there M)
 
-loop-less-4 : tie.Need-loop-less-4 Inv-loop2 μ-loop2 Inv-loop3 μ-loop3 Inv-loop μ-loop
-loop-less-4 c = search falls
+acts-begin-requires : tie.Need-acts-begin-requires Inv-loop2 μ-loop2 Inv-loop3 μ-loop3 Inv-loop4 μ-loop4 Inv-loop μ-loop
+acts-begin-requires c κs = let M = manages (c .before .before) in (M .names .turn .prepared, managed-there M)
 
-loop-again-4 : tie.Need-loop-again-4 Inv-loop2 μ-loop2 Inv-loop3 μ-loop3 Inv-loop μ-loop
-loop-again-4 c = search (turn-dropped (goes (c .before .before)))
+loop4-holds : tie.Need-loop4-holds Inv-loop2 μ-loop2 Inv-loop3 μ-loop3 Inv-loop4 μ-loop4 Inv-loop μ-loop
+loop4-holds c = search (lists-none (manages (c .before .before .before)))
 
-left-at-requires-7 : tie.Need-left-at-requires-7 Inv-loop2 μ-loop2 Inv-loop3 μ-loop3 Inv-loop μ-loop
+mul-y-3 : tie.Need-mul-y-3 Inv-loop2 μ-loop2 Inv-loop3 μ-loop3 Inv-loop4 μ-loop4 Inv-loop μ-loop
+mul-y-3 c = omega (arith, listed-fits (c .before .loop4 .inv) (c .loop4-test .taken))
+
+element-copy-out-y-3 : tie.Need-element-copy-out-y-3 Inv-loop2 μ-loop2 Inv-loop3 μ-loop3 Inv-loop4 μ-loop4 Inv-loop μ-loop
+element-copy-out-y-3 c = search listed-fits
+
+flag-requires : tie.Need-flag-requires Inv-loop2 μ-loop2 Inv-loop3 μ-loop3 Inv-loop4 μ-loop4 Inv-loop μ-loop
+flag-requires c κs = search listed-fits
+
+mul-v : tie.Need-mul-v Inv-loop2 μ-loop2 Inv-loop3 μ-loop3 Inv-loop4 μ-loop4 Inv-loop μ-loop
+mul-v c = omega (arith, listed-fits (c .before .before .before .loop4 .inv) (c .before .before .loop4-test .taken))
+
+element-set-from-v : tie.Need-element-set-from-v Inv-loop2 μ-loop2 Inv-loop3 μ-loop3 Inv-loop4 μ-loop4 Inv-loop μ-loop
+element-set-from-v c = search listed-fits
+
+listed-of-requires : tie.Need-listed-of-requires Inv-loop2 μ-loop2 Inv-loop3 μ-loop3 Inv-loop4 μ-loop4 Inv-loop μ-loop
+listed-of-requires c κs = search needs
+
+mul-listed : tie.Need-mul-listed Inv-loop2 μ-loop2 Inv-loop3 μ-loop3 Inv-loop4 μ-loop4 Inv-loop μ-loop
+mul-listed c = omega (arith, listed-fits (c .before .before .before .before .loop4 .inv) (c .before .before .before .loop4-test .taken))
+
+array-write-listed : tie.Need-array-write-listed Inv-loop2 μ-loop2 Inv-loop3 μ-loop3 Inv-loop4 μ-loop4 Inv-loop μ-loop
+array-write-listed c = search listed-fits
+
+add-a : tie.Need-add-a Inv-loop2 μ-loop2 Inv-loop3 μ-loop3 Inv-loop4 μ-loop4 Inv-loop μ-loop
+add-a c = search (needs, listed-fits)
+
+loop4-less : tie.Need-loop4-less Inv-loop2 μ-loop2 Inv-loop3 μ-loop3 Inv-loop4 μ-loop4 Inv-loop μ-loop
+loop4-less c = search needs
+
+loop4-again : tie.Need-loop4-again Inv-loop2 μ-loop2 Inv-loop3 μ-loop3 Inv-loop4 μ-loop4 Inv-loop μ-loop
+loop4-again c = search lists-more
+
+opened-task-requires : tie.Need-opened-task-requires Inv-loop2 μ-loop2 Inv-loop3 μ-loop3 Inv-loop4 μ-loop4 Inv-loop μ-loop
+opened-task-requires c κs = search (cycle-small (names (c .before .before .before .before .before .before .before .before .before .before)))
+
+mul-u : tie.Need-mul-u Inv-loop2 μ-loop2 Inv-loop3 μ-loop3 Inv-loop4 μ-loop4 Inv-loop μ-loop
+mul-u c = omega (arith, task-row (c .before .before .before .before .before .before .before .before .before .before))
+
+element-set-from-u : tie.Need-element-set-from-u Inv-loop2 μ-loop2 Inv-loop3 μ-loop3 Inv-loop4 μ-loop4 Inv-loop μ-loop
+element-set-from-u c = search task-row
+
+after-sm-requires : tie.Need-after-sm-requires Inv-loop2 μ-loop2 Inv-loop3 μ-loop3 Inv-loop4 μ-loop4 Inv-loop μ-loop
+after-sm-requires c κs = search counts
+
+add-at-2 : tie.Need-add-at-2 Inv-loop2 μ-loop2 Inv-loop3 μ-loop3 Inv-loop4 μ-loop4 Inv-loop μ-loop
+add-at-2 c = record { fits = search behind-fits }
+
+loop-less-2 : tie.Need-loop-less-2 Inv-loop2 μ-loop2 Inv-loop3 μ-loop3 Inv-loop4 μ-loop4 Inv-loop μ-loop
+loop-less-2 c = search falls
+
+loop-again-2 : tie.Need-loop-again-2 Inv-loop2 μ-loop2 Inv-loop3 μ-loop3 Inv-loop4 μ-loop4 Inv-loop μ-loop
+loop-again-2 c = search (sm-on (manages (c .before .before .before .before .before .before .before)))
+
+act-in-requires : tie.Need-act-in-requires Inv-loop2 μ-loop2 Inv-loop3 μ-loop3 Inv-loop4 μ-loop4 Inv-loop μ-loop
+act-in-requires c κs = search needs
+
+mul-y-4 : tie.Need-mul-y-4 Inv-loop2 μ-loop2 Inv-loop3 μ-loop3 Inv-loop4 μ-loop4 Inv-loop μ-loop
+mul-y-4 c = omega (arith, act-row c)
+
+element-copy-out-y-4 : tie.Need-element-copy-out-y-4 Inv-loop2 μ-loop2 Inv-loop3 μ-loop3 Inv-loop4 μ-loop4 Inv-loop μ-loop
+element-copy-out-y-4 c = search act-row
+
+slice-aggregate-aside-of : tie.Need-slice-aggregate-aside-of Inv-loop2 μ-loop2 Inv-loop3 μ-loop3 Inv-loop4 μ-loop4 Inv-loop μ-loop
+slice-aggregate-aside-of c = search busy-sized
+
+slice-aggregate-aside-of-2 : tie.Need-slice-aggregate-aside-of-2 Inv-loop2 μ-loop2 Inv-loop3 μ-loop3 Inv-loop4 μ-loop4 Inv-loop μ-loop
+slice-aggregate-aside-of-2 c = search listed-sized
+
+aside-of-requires : tie.Need-aside-of-requires Inv-loop2 μ-loop2 Inv-loop3 μ-loop3 Inv-loop4 μ-loop4 Inv-loop μ-loop
+aside-of-requires c κs = let N = names (c .before .before .before .before .before .before .before .before) in (N .turn .prepared, N .named, place-there N _, busy-long N, listed-long N)
+
+local-step-requires : tie.Need-local-step-requires Inv-loop2 μ-loop2 Inv-loop3 μ-loop3 Inv-loop4 μ-loop4 Inv-loop μ-loop
+local-step-requires c κs = let N = names (c .before .before .before .before .before .before .before .before .before) in (N .turn .prepared, N .named, place-there N _, search (missed-small N))
+
+left-at-requires-7 : tie.Need-left-at-requires-7 Inv-loop2 μ-loop2 Inv-loop3 μ-loop3 Inv-loop4 μ-loop4 Inv-loop μ-loop
 left-at-requires-7 c κs = search needs
 
-returns-7 : tie.Need-returns-7 Inv-loop2 μ-loop2 Inv-loop3 μ-loop3 Inv-loop μ-loop
-returns-7 c = search run-ends
+returns-7 : tie.Need-returns-7 Inv-loop2 μ-loop2 Inv-loop3 μ-loop3 Inv-loop4 μ-loop4 Inv-loop μ-loop
+returns-7 c = search (step-stops (steps (c .before .before)))
+
+mul-u-2 : tie.Need-mul-u-2 Inv-loop2 μ-loop2 Inv-loop3 μ-loop3 Inv-loop4 μ-loop4 Inv-loop μ-loop
+mul-u-2 c = omega (arith, task-row (c .before .before .before .before .before .before .before .before .before .before .before .before))
+
+element-set-from-u-2 : tie.Need-element-set-from-u-2 Inv-loop2 μ-loop2 Inv-loop3 μ-loop3 Inv-loop4 μ-loop4 Inv-loop μ-loop
+element-set-from-u-2 c = search task-row
+
+mul-v-2 : tie.Need-mul-v-2 Inv-loop2 μ-loop2 Inv-loop3 μ-loop3 Inv-loop4 μ-loop4 Inv-loop μ-loop
+mul-v-2 c = omega (arith, act-row (c .before .before .before .before .before .before .before .before))
+
+element-set-from-v-2 : tie.Need-element-set-from-v-2 Inv-loop2 μ-loop2 Inv-loop3 μ-loop3 Inv-loop4 μ-loop4 Inv-loop μ-loop
+element-set-from-v-2 c = search act-row
+
+busy-of-requires : tie.Need-busy-of-requires Inv-loop2 μ-loop2 Inv-loop3 μ-loop3 Inv-loop4 μ-loop4 Inv-loop μ-loop
+busy-of-requires c κs = search needs
+
+mul-busy : tie.Need-mul-busy Inv-loop2 μ-loop2 Inv-loop3 μ-loop3 Inv-loop4 μ-loop4 Inv-loop μ-loop
+mul-busy c = omega (arith, act-row (c .before .before .before .before .before .before .before .before .before))
+
+array-write-busy : tie.Need-array-write-busy Inv-loop2 μ-loop2 Inv-loop3 μ-loop3 Inv-loop4 μ-loop4 Inv-loop μ-loop
+array-write-busy c = search act-row
+
+listed-of-requires-2 : tie.Need-listed-of-requires-2 Inv-loop2 μ-loop2 Inv-loop3 μ-loop3 Inv-loop4 μ-loop4 Inv-loop μ-loop
+listed-of-requires-2 c κs = search needs
+
+mul-listed-2 : tie.Need-mul-listed-2 Inv-loop2 μ-loop2 Inv-loop3 μ-loop3 Inv-loop4 μ-loop4 Inv-loop μ-loop
+mul-listed-2 c = omega (arith, act-row (c .before .before .before .before .before .before .before .before .before .before))
+
+array-write-listed-2 : tie.Need-array-write-listed-2 Inv-loop2 μ-loop2 Inv-loop3 μ-loop3 Inv-loop4 μ-loop4 Inv-loop μ-loop
+array-write-listed-2 c = search act-row
+
+ruling-of-requires : tie.Need-ruling-of-requires Inv-loop2 μ-loop2 Inv-loop3 μ-loop3 Inv-loop4 μ-loop4 Inv-loop μ-loop
+ruling-of-requires c κs = let N = names (c .before .before .before .before .before .before .before .before .before .before .before .before .before .before .before) in (N .turn .prepared, N .named, search (opened-before N))
+
+after-step-requires : tie.Need-after-step-requires Inv-loop2 μ-loop2 Inv-loop3 μ-loop3 Inv-loop4 μ-loop4 Inv-loop μ-loop
+after-step-requires c κs = search counts
+
+add-at-3 : tie.Need-add-at-3 Inv-loop2 μ-loop2 Inv-loop3 μ-loop3 Inv-loop4 μ-loop4 Inv-loop μ-loop
+add-at-3 c = record { fits = search behind-fits }
+
+enum-told-3 : tie.Need-enum-told-3 Inv-loop2 μ-loop2 Inv-loop3 μ-loop3 Inv-loop4 μ-loop4 Inv-loop μ-loop
+enum-told-3 c = search needs
+
+loop-less-3 : tie.Need-loop-less-3 Inv-loop2 μ-loop2 Inv-loop3 μ-loop3 Inv-loop4 μ-loop4 Inv-loop μ-loop
+loop-less-3 c = search falls
+
+loop-again-3 : tie.Need-loop-again-3 Inv-loop2 μ-loop2 Inv-loop3 μ-loop3 Inv-loop4 μ-loop4 Inv-loop μ-loop
+loop-again-3 c = search (turn-open (goes (c .before .before)))
+
+enum-known-w : tie.Need-enum-known-w Inv-loop2 μ-loop2 Inv-loop3 μ-loop3 Inv-loop4 μ-loop4 Inv-loop μ-loop
+enum-known-w c = search needs
+
+left-at-requires-8 : tie.Need-left-at-requires-8 Inv-loop2 μ-loop2 Inv-loop3 μ-loop3 Inv-loop4 μ-loop4 Inv-loop μ-loop
+left-at-requires-8 c κs = search needs
+
+returns-8 : tie.Need-returns-8 Inv-loop2 μ-loop2 Inv-loop3 μ-loop3 Inv-loop4 μ-loop4 Inv-loop μ-loop
+returns-8 c = search (turn-kept (goes (c .before .before .before .before)))
+
+enum-told-4 : tie.Need-enum-told-4 Inv-loop2 μ-loop2 Inv-loop3 μ-loop3 Inv-loop4 μ-loop4 Inv-loop μ-loop
+enum-told-4 c = search needs
+
+loop-less-4 : tie.Need-loop-less-4 Inv-loop2 μ-loop2 Inv-loop3 μ-loop3 Inv-loop4 μ-loop4 Inv-loop μ-loop
+loop-less-4 c = search falls
+
+loop-again-4 : tie.Need-loop-again-4 Inv-loop2 μ-loop2 Inv-loop3 μ-loop3 Inv-loop4 μ-loop4 Inv-loop μ-loop
+loop-again-4 c = search (turn-dropped (goes (c .before .before)))
+
+left-at-requires-9 : tie.Need-left-at-requires-9 Inv-loop2 μ-loop2 Inv-loop3 μ-loop3 Inv-loop4 μ-loop4 Inv-loop μ-loop
+left-at-requires-9 c κs = search needs
+
+returns-9 : tie.Need-returns-9 Inv-loop2 μ-loop2 Inv-loop3 μ-loop3 Inv-loop4 μ-loop4 Inv-loop μ-loop
+returns-9 c = search run-ends
 
 pub run-spec : {M : Type 1} → statement M
 run-spec =
@@ -437,6 +495,8 @@ run-spec =
     μ-loop2
     Inv-loop3
     μ-loop3
+    Inv-loop4
+    μ-loop4
     Inv-loop
     μ-loop
     tasks-requires
@@ -449,48 +509,65 @@ run-spec =
     returns
     is-wait-requires
     ticks-of-requires
-    slice-aggregate-wait-refusal
-    wait-refusal-requires
+    in-range-requires
     left-at-requires-2
     returns-2
     loop2-holds
     mul-x
     element-copy-out-x
+    held-in-requires
+    mul-y
+    element-copy-out-y
+    slice-aggregate-hinders
+    hinders-requires
+    left-at-requires-3
+    returns-3
+    has-room-requires
+    both-requires
+    add-k
+    loop2-less
+    loop2-again
+    wait-number-requires
+    left-at-requires-4
+    returns-4
+    loop3-holds
+    mul-x-2
+    element-copy-out-x-2
     add-late
     mul-s
     way-write-given-s
     add-m
     enum-told-2
-    loop2-less
-    loop2-again
+    loop3-less
+    loop3-again
     enum-known-h
-    mul-y
-    element-copy-out-y
+    mul-y-2
+    element-copy-out-y-2
     older-clock-requires
     mul-s-2
     way-write-given-s-2
-    loop2-less-2
-    loop2-again-2
+    loop3-less-2
+    loop3-again-2
     add-s
     after-wait-requires
     add-at
     loop-less
     loop-again
     rows-exist-requires
-    left-at-requires-3
-    returns-3
+    left-at-requires-5
+    returns-5
     task-in-requires
-    mul-x-2
-    element-copy-out-x-2
+    mul-x-3
+    element-copy-out-x-3
     is-sm-requires
     sm-refusal-requires
-    left-at-requires-4
-    returns-4
+    left-at-requires-6
+    returns-6
     acts-end-requires
     acts-begin-requires
-    loop3-holds
-    mul-y-2
-    element-copy-out-y-2
+    loop4-holds
+    mul-y-3
+    element-copy-out-y-3
     flag-requires
     mul-v
     element-set-from-v
@@ -498,8 +575,8 @@ run-spec =
     mul-listed
     array-write-listed
     add-a
-    loop3-less
-    loop3-again
+    loop4-less
+    loop4-again
     opened-task-requires
     mul-u
     element-set-from-u
@@ -508,14 +585,14 @@ run-spec =
     loop-less-2
     loop-again-2
     act-in-requires
-    mul-y-3
-    element-copy-out-y-3
+    mul-y-4
+    element-copy-out-y-4
     slice-aggregate-aside-of
     slice-aggregate-aside-of-2
     aside-of-requires
     local-step-requires
-    left-at-requires-5
-    returns-5
+    left-at-requires-7
+    returns-7
     mul-u-2
     element-set-from-u-2
     mul-v-2
@@ -533,10 +610,10 @@ run-spec =
     loop-less-3
     loop-again-3
     enum-known-w
-    left-at-requires-6
-    returns-6
+    left-at-requires-8
+    returns-8
     enum-told-4
     loop-less-4
     loop-again-4
-    left-at-requires-7
-    returns-7)
+    left-at-requires-9
+    returns-9)
