@@ -1,28 +1,30 @@
 -- One law for each exit of the code, over what its calls ensure.
 use Prim.Native.Nat.{ℕ, _+_, _-_, _≤_, _<_}
-use mathlib.Core.Path.{_≡_, sym, _∙_}
-use mathlib.Core.List.{List}
-use mathlib.Core.Bool.{Bool, true, false}
+use mathlib.Core.Path.{_≡_, sym, ap, _∙_}
+use mathlib.Core.List.{List, [], _∷_, _++_}
+use mathlib.Core.Bool.{Bool, true, false, not}
 use native.Mathlib.Omega.{arith}
-use lib.ListN.{length, take, drop, length-drop}
+use lib.ListN.{length, getD, take, drop, length-drop, take-append-drop}
 use lib.Seq.{take-all, length-take-le}
 use lib.Dec.{leb}
-use borrow.Author.Tests.{lt-ltb, le-ltb, le-leb, lt-leb, leb-false, eq-eqb, ne-eqb}
-use Rattle.text.specs.Parts.{pick, firstAt, partsFrom}
+use borrow.Author.Tests.{lt-ltb, le-ltb, le-leb, lt-leb, leb-false, eq-eqb, ne-eqb, not-true, not-false}
+use Rattle.text.specs.Parts.{pick, firstAt, splitOn, partsFrom}
 use Rattle.text.specs.Words.{sameList, wordIn}
 use Rattle.text.specs.declared.Number.{Number}
 use Rattle.text.specs.declared.Number.the-variants as number
 use Rattle.text.specs.declared.Word.{Word}
 use Rattle.text.specs.declared.Word.the-variants as word
-use Rattle.text.proofs.Picks.{order, passed}
-use Rattle.text.proofs.Parts.{firstAt-le, parts-cut, parts-none, parts-all}
+use Rattle.text.proofs.Picks.{order, passed, false-true}
+use Rattle.text.proofs.Parts.{firstAt-le, parts-cut, parts-none}
+use Rattle.text.proofs.Words.{same-list}
 use Rattle.model.specs.declared.Place.{Place}
-use Rattle.model.specs.declared.Step.the-variants.{Lm, Ea, Fa}
+use Rattle.model.specs.declared.Step.the-variants.{Wait, Lm, Ea, Fa}
 use Rattle.model.specs.declared.Line.{Line}
 use Rattle.model.specs.declared.Line.the-variants.{Is, Bad}
-use Rattle.log.specs.Lines.{etherValue, etherWord, stepWords, aNumber, aSet, byForm, only, headed, gotAt, headOf, given, placeOf, oneNumber, oneOf, twoNumbers, twoOf, managerLine, leavingLine, stepOf, onWord, readStep, readLine}
+use Rattle.log.specs.Lines.{etherValue, etherWord, stepWords, aNumber, aSet, byForm, only, headed, gotAt, headOf, given, placeOf, oneNumber, oneOf, twoNumbers, twoOf, managerLine, leavingLine, stepOf, onWord, stepIn, readStep, readLine}
 use Rattle.log.specs.declared.Got.{Got}
 use Rattle.log.specs.declared.Got.the-variants as got
+use Rattle.log.proofs.Words.{wait, begins, short, waiting}
 use Rattle.log.proofs.Forms.{told, tabless, only-whole}
 
 -- a field by its form
@@ -140,13 +142,25 @@ module _ (k : ℕ) (ps : List (List ℕ)) (r : Line) where
         pub word-one : (k ≡ 7 → ⊥) → r ≡ oneNumber ps (oneOf k) → r ≡ stepOf k ps
         word-one h e = rw (ne-eqb _ _ a, ne-eqb _ _ b, ne-eqb _ _ c, ne-eqb _ _ h) e
 
+-- the first bytes of a text are as many as are asked for
+pub part-long : (s : List ℕ) (e : ℕ) → e ≤ length s → e ≡ length (take e s)
+part-long s e h = sym (length-take-le e s h)
+
 -- what a text's first c cuts off
 module _ (s : List ℕ) (e c : ℕ) (f : e ≡ firstAt s 0 c) where
   pub first-ends : e ≤ length s
   first-ends = rw f (firstAt-le c s 0 (omega arith) .1)
 
   pub first-long : e ≡ length (take e s)
-  first-long = sym (length-take-le e s first-ends)
+  first-long = part-long s e first-ends
+
+-- what a line says by its word and its fields
+module _ (w v : Word) (e : w ≡ v) (ps : List (List ℕ)) where
+  pub word-none : w ≡ word.Unknown → Bad ≡ onWord v ps
+  word-none u = rw (← e, u)
+
+  pub word-is : (k : ℕ) → w ≡ word.Is k → (r : Line) → r ≡ stepOf k ps → r ≡ onWord v ps
+  word-is k u r p = rw (← e, u) p
 
 -- a line without its newline
 module _ (s : List ℕ) where
@@ -154,19 +168,43 @@ module _ (s : List ℕ) where
   unfolding readStep
   step-long h = let k : 63 < length s + 1 = omega arith in rw (lt-ltb _ _ k)
 
-  module _ (h : length s < 63) (e : ℕ) (f : e ≡ firstAt s 0 9) (w : Word) (q : w ≡ wordIn stepWords (take e s)) where
-    step-on : readStep s ≡ onWord w (partsFrom 9 s (e + 1))
+  module _ (h : length s < 63) where
+    step-in : readStep s ≡ stepIn (splitOn 9 s)
     unfolding readStep
-    step-on =
-        let k : length s + 1 ≤ 63 = omega arith in
-        let z : firstAt s 0 9 - 0 ≡ firstAt s 0 9 = omega arith in
-        rw (le-ltb _ _ k, ← parts-all 9 s, parts-cut 9 s 0 (omega arith), z, q, f)
+    step-in = let k : length s + 1 ≤ 63 = omega arith in rw (le-ltb _ _ k)
 
-    pub step-none : w ≡ word.Unknown → Bad ≡ readStep s
-    step-none u = sym (rw u at step-on)
+    -- too few bytes for two letters and a tab
+    pub step-few : length s < 3 → Bad ≡ readStep s
+    step-few l = rw step-in (begins s (λ q e. omega (arith, ap length e)) (λ x y q e. omega (arith, ap length e)))
 
-    pub step-is : (k : ℕ) → w ≡ word.Is k → (r : Line) → r ≡ stepOf k (partsFrom 9 s (e + 1)) → r ≡ readStep s
-    step-is k u r p = rw (step-on, u) p
+    module _ (n : getD s 2 0 ≡ 9 → ⊥) where
+      two : (x y : ℕ) (q : List ℕ) → s ≡ x ∷ y ∷ 9 ∷ q → ⊥
+      two x y q e = n (rw e)
+
+      -- or for `wait` and a tab
+      pub step-short : length s < 5 → Bad ≡ readStep s
+      step-short l = rw step-in (begins s (λ q e. omega (arith, ap length e)) two)
+
+      -- other letters
+      pub step-other : (t : Bool) → t ≡ sameList (take 5 s) (wait ++ 9 ∷ []) → not t ≡ true → Bad ≡ readStep s
+      step-other t e u =
+          rw step-in
+          (begins s (λ q f. false-true (sym (not-true t u) ∙ e ∙ rw f)) two)
+
+    -- `wait` and a tab
+    pub step-wait : 5 ≤ length s → (t : Bool) → t ≡ sameList (take 5 s) (wait ++ 9 ∷ []) → not t ≡ false
+        → (r : Line) → r ≡ given (only aNumber (partsFrom 9 s 5)) (λ a. Is (Wait a)) → r ≡ readStep s
+    step-wait l t e u r p =
+        let q : wait ++ 9 ∷ drop 5 s ≡ s = rw (same-list (take 5 s) (wait ++ 9 ∷ []) (sym e ∙ not-false t u)) at (take-append-drop 5 s) in
+        rw (le-ltb _ _ l) at p ∙ sym (waiting (drop 5 s)) ∙ ap (λ z. stepIn (splitOn 9 z)) q ∙ sym step-in
+
+-- two letters and a tab
+pub step-two : (s : List ℕ) → length s < 63 → 3 ≤ length s → getD s 2 0 ≡ 9 → (r : Line) → r ≡ onWord (wordIn stepWords (take 2 s)) (partsFrom 9 s 3) → r ≡ readStep s
+step-two [] h l e r p = absurd (omega arith)
+step-two (x ∷ []) h l e r p = absurd (omega arith)
+step-two (x ∷ y ∷ []) h l e r p = absurd (omega arith)
+step-two (x ∷ y ∷ z ∷ t) h l e r p =
+    rw (le-ltb _ _ l) at p ∙ sym (short x y t) ∙ ap (λ c. stepIn (splitOn 9 (x ∷ y ∷ c ∷ t))) (sym e) ∙ sym (step-in (x ∷ y ∷ z ∷ t) h)
 
 -- a line with it
 module _ (s : List ℕ) (e : ℕ) (f : e ≡ firstAt s 0 10) where

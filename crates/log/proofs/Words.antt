@@ -1,19 +1,24 @@
 -- The words of the steps: nine, no two alike, each told by its letters.
 use Prim.Native.Nat.{ℕ, suc, _<_}
-use mathlib.Core.Path.{_≡_, refl, sym, _∙_}
-use mathlib.Core.List.{List, [], _∷_}
+use mathlib.Core.Path.{_≡_, refl, sym}
+use mathlib.Core.List.{List, [], _∷_, _++_}
 use mathlib.Core.Bool.{Bool, true, false}
 use native.Mathlib.Omega.{arith}
-use lib.ListN.{length, getD}
-use borrow.Author.Tests.{ne-eqb}
-use Rattle.text.specs.Parts.{splitOn}
+use lib.ListN.{length, getD, take}
+use lib.Dec.{eqb}
+use borrow.Author.Tests.{eqb-true, ne-eqb}
+use Rattle.text.specs.Parts.{pick, splitOn, joinOn}
 use Rattle.text.specs.Words.{sameList, indexFrom, wordIn, wordAt, none, distinct}
 use Rattle.text.specs.declared.Word.{Word}
 use Rattle.text.specs.declared.Word.the-variants.{Is, Unknown}
-use Rattle.text.proofs.Picks.{passed, false-true}
+use Rattle.text.proofs.Picks.{cases, passed, false-true}
+use Rattle.text.proofs.Parts.{join-split}
 use Rattle.text.proofs.Words.{same-list, word-written}
 use Rattle.text.proofs.Turns.{same-short}
-use Rattle.log.specs.Lines.{stepWords}
+use Rattle.model.specs.declared.Step.the-variants.{Wait}
+use Rattle.model.specs.declared.Line.{Line}
+use Rattle.model.specs.declared.Line.the-variants as line
+use Rattle.log.specs.Lines.{stepWords, aNumber, given, only, onWord, stepIn}
 
 -- the word of four letters, and all in their order
 abbrev pub wait : List ℕ
@@ -51,19 +56,66 @@ letterless x y a b c d e f =
     let g : sameList (x ∷ y ∷ []) wait ≡ false = sym (same-short (x ∷ y ∷ []) wait (λ l. omega arith)) in
     unlike (x ∷ y ∷ []) (rw (g, ne-eqb _ _ a, ne-eqb _ _ b, ne-eqb _ _ c, ne-eqb _ _ d, ne-eqb _ _ e, ne-eqb _ _ f))
 
--- a field of two letters is these
-pub letters : (r : Word) (words w : List ℕ) → r ≡ wordIn words (getD w 0 0 ∷ getD w 1 0 ∷ []) → length w ≡ 2 → r ≡ wordIn words w
+-- a text's first two letters are these
+pub letters : (r : Word) (words w : List ℕ) → r ≡ wordIn words (getD w 0 0 ∷ getD w 1 0 ∷ []) → 2 < length w → r ≡ wordIn words (take 2 w)
 letters r words [] e h = absurd (omega arith)
 letters r words (x ∷ []) e h = absurd (omega arith)
-letters r words (x ∷ y ∷ []) e h = e
-letters r words (x ∷ y ∷ z ∷ w) e h = absurd (omega arith)
+letters r words (x ∷ y ∷ w) e h = e
 
--- any other is `wait` or none
-module _ (w : List ℕ) (t : Bool) (e : t ≡ sameList w wait) where
-  pub waiting : t ≡ true → Is 0 ≡ wordIn stepWords w
-  waiting u = sym (rw (same-list w wait (sym e ∙ u)) (word-place 0 (omega arith)))
+-- a word that is not `wait` has two letters
+wordless : (w : List ℕ) → sameList w wait ≡ false → (length w ≡ 2 → ⊥) → wordIn stepWords w ≡ Unknown
+wordless w u h =
+    let no : (x y : ℕ) → sameList w (x ∷ y ∷ []) ≡ false = λ x y. sym (same-short w (x ∷ y ∷ []) h) in
+    sym (unlike w (simp (u, no)))
 
-  pub wordless : t ≡ false → (length w ≡ 2 → ⊥) → Unknown ≡ wordIn stepWords w
-  wordless u h =
-      let no : (x y : ℕ) → sameList w (x ∷ y ∷ []) ≡ false = λ x y. sym (same-short w (x ∷ y ∷ []) h) in
-      unlike w (simp (sym e ∙ u, no))
+-- and the second of them is no tab
+tabbed : (x : ℕ) → wordIn stepWords (x ∷ 9 ∷ []) ≡ Unknown
+tabbed x =
+    let no : (b : Bool) → pick b false false ≡ false = λ b. cases b (λ e. rw e) (λ e. rw e) in
+    sym (unlike (x ∷ 9 ∷ []) (simp no))
+
+-- a word with no field behind it is no step
+bare : (w : Word) → line.Bad ≡ onWord w []
+bare Unknown = refl
+bare (Is k) =
+    on (eqb k 2) refl (on (eqb k 3) refl (on (eqb k 5) refl (on (eqb k 7) refl refl)))
+  where
+    on : (b : Bool) {x y : Line} → line.Bad ≡ x → line.Bad ≡ y → line.Bad ≡ pick b x y
+    on true e f = e
+    on false e f = f
+
+-- a line that begins neither with `wait` and a tab nor with two letters and a tab is no step
+pub begins : (s : List ℕ) → ((q : List ℕ) → s ≡ wait ++ 9 ∷ q → ⊥) → ((x y : ℕ) (q : List ℕ) → s ≡ x ∷ y ∷ 9 ∷ q → ⊥) → line.Bad ≡ stepIn (splitOn 9 s)
+begins s f g = from (splitOn 9 s) (sym (join-split 9 s))
+  where
+    behind : (w q : List ℕ) (ps : List (List ℕ)) → s ≡ w ++ 9 ∷ q → sameList w wait ≡ false → line.Bad ≡ onWord (wordIn stepWords w) ps
+    behind [] q ps e t = rw (wordless [] t (λ l. omega arith))
+    behind (x ∷ []) q ps e t = rw (wordless (x ∷ []) t (λ l. omega arith))
+    behind (x ∷ y ∷ []) q ps e t = absurd (g x y q e)
+    behind (x ∷ y ∷ z ∷ w) q ps e t = rw (wordless (x ∷ y ∷ z ∷ w) t (λ l. omega arith))
+
+    from : (ps : List (List ℕ)) → s ≡ joinOn 9 ps → line.Bad ≡ stepIn ps
+    from [] e = refl
+    from (w ∷ []) e = bare (wordIn stepWords w)
+    from (w ∷ m ∷ ls) e =
+        cases (sameList w wait)
+        (λ t. absurd (f (joinOn 9 (m ∷ ls)) (rw (same-list w wait t) at e)))
+        (behind w (joinOn 9 (m ∷ ls)) (m ∷ ls) e)
+
+-- one that does begin with two letters and a tab
+pub short : (x y : ℕ) (t : List ℕ) → stepIn (splitOn 9 (x ∷ y ∷ 9 ∷ t)) ≡ onWord (wordIn stepWords (x ∷ y ∷ [])) (splitOn 9 t)
+short x y t =
+    cases (eqb x 9)
+    (λ e.
+    let no = letterless 9 y (λ l. omega arith) (λ l. omega arith) (λ l. omega arith) (λ l. omega arith) (λ l. omega arith) (λ l. omega arith) in
+    rw (eqb-true x 9 e, wordless [] refl (λ l. omega arith), ← no))
+    (λ e.
+    cases (eqb y 9)
+    (λ f.
+    let z : sameList (x ∷ []) wait ≡ false = sym (same-short (x ∷ []) wait (λ l. omega arith)) in
+    rw (e, eqb-true y 9 f, wordless (x ∷ []) z (λ l. omega arith), tabbed x))
+    (λ f. rw (e, f)))
+
+-- and one that begins with `wait` and a tab
+pub waiting : (t : List ℕ) → stepIn (splitOn 9 (wait ++ 9 ∷ t)) ≡ given (only aNumber (splitOn 9 t)) (λ a. line.Is (Wait a))
+waiting t = rw (word-place 0 (omega arith))

@@ -1,11 +1,11 @@
 // A log's lines: each read as a step.
 ghost use mathlib.Core.Path.{_≡_};
 ghost use mathlib.Core.List.{[], _∷_};
-ghost use Prim.Native.Nat.{_+_, _≤_};
-ghost use lib.ListN.{length};
+ghost use Prim.Native.Nat.{_+_, _≤_, _<_};
+ghost use lib.ListN.{length, take};
 ghost use Rattle.text.specs.Parts.{partsFrom};
 ghost use Rattle.text.specs.Words.{wordIn};
-ghost use Rattle.log.specs.Lines.{stepWords, byForm, placeOf, only, oneOf, twoOf, headOf, twoNumbers, managerLine, leavingLine, readStep, readLine};
+ghost use Rattle.log.specs.Lines.{stepWords, byForm, placeOf, only, oneOf, twoOf, headOf, twoNumbers, managerLine, leavingLine, onWord, readStep, readLine};
 use model::Line;
 use model::Place;
 use model::Step;
@@ -79,19 +79,6 @@ fn two_letters(x: u8, y: u8) -> Word
             return Word::Is(8);
         }
         return Word::Unknown;
-    }
-    Word::Unknown
-}
-
-// Which step word a field is.
-fn step_word(w: &[u8]) -> Word
-    ensures { λ r. ⌜ r ≡ wordIn stepWords (now (w .entry)) ⌝ }
-{
-    if w.len() == 2 {
-        return two_letters(w[0], w[1]);
-    }
-    if text::same(w, b"wait") {
-        return Word::Is(0);
     }
     Word::Unknown
 }
@@ -217,33 +204,56 @@ fn read_two(line: &[u8], at: usize, k: usize) -> Line
     Line::Is(Step::Ea(a as usize, b as usize))
 }
 
-// What a line says, without its newline.
-pub fn read_step(line: &[u8]) -> Line
-    ensures { λ r. ⌜ r ≡ readStep (now (line .entry)) ⌝ }
+// What a line says whose word has two letters.
+fn read_short(line: &[u8]) -> Line
+    requires { ⌜ 2 < length (now line) ⌝ }
+    ensures { λ r. ⌜ r ≡ onWord (wordIn stepWords (take 2 (now (line .entry)))) (partsFrom 9 (now (line .entry)) 3) ⌝ }
 {
-    if LONGEST_LINE <= line.len() {
-        return Line::Bad;
-    }
-    let w = text::next_byte(line, 0, text::TAB);
-    let Word::Is(k) = step_word(&line[..w]) else {
+    let Word::Is(k) = two_letters(line[0], line[1]) else {
         return Line::Bad;
     };
     if k == 2 {
-        return read_manager(line, w);
+        return read_manager(line, 2);
     }
     if k == 3 {
-        return read_two(line, w, k);
+        return read_two(line, 2, k);
     }
     if k == 5 {
-        return read_two(line, w, k);
+        return read_two(line, 2, k);
     }
     if k == 7 {
-        return read_leaving(line, w);
+        return read_leaving(line, 2);
     }
-    let Number::Is(a) = only_field(line, w, DECIMAL) else {
+    let Number::Is(a) = only_field(line, 2, DECIMAL) else {
         return Line::Bad;
     };
     Line::Is(with_one(k, a))
+}
+
+// What a line says, without its newline: its word has two letters or is `wait`.
+pub fn read_step(line: &[u8]) -> Line
+    ensures { λ r. ⌜ r ≡ readStep (now (line .entry)) ⌝ }
+{
+    let n = line.len();
+    if LONGEST_LINE <= n {
+        return Line::Bad;
+    }
+    if n < 3 {
+        return Line::Bad;
+    }
+    if line[2] == text::TAB {
+        return read_short(line);
+    }
+    if n < 5 {
+        return Line::Bad;
+    }
+    if !text::same(&line[..5], b"wait\t") {
+        return Line::Bad;
+    }
+    let Number::Is(a) = only_field(line, 4, DECIMAL) else {
+        return Line::Bad;
+    };
+    Line::Is(Step::Wait(a))
 }
 
 // What the bytes of one line say, its newline with them.

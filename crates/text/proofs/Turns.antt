@@ -218,6 +218,40 @@ module _ (s : List ℕ) (i c r : ℕ) (now : firstAt s i c ≡ r) where
     pub find-more : (getD s i 0 ≡ c → ⊥) → firstAt s (i + 1) c ≡ r
     find-more e = rw (add-one i) (let k = rw (drop-cons s i 0 h, ne-eqb _ _ e) at now in omega arith)
 
+-- the first c, looked for at four places before the end
+module _ (s : List ℕ) (i c r : ℕ) (now : firstAt s i c ≡ r) (m : ℕ) (q : m ≡ length s - 3) (l : i < m) where
+  -- here it is
+  pub find-first : getD s i 0 ≡ c → i ≡ r
+  find-first = find-here s i c r now (omega arith)
+
+  module _ (n : getD s i 0 ≡ c → ⊥) where
+    past-first : firstAt s (i + 1) c ≡ r
+    past-first = find-more s i c r now (omega arith) n
+
+    -- at the next place
+    pub find-second : getD s (i + 1) 0 ≡ c → i + 1 ≡ r
+    find-second = find-here s (i + 1) c r past-first (omega arith)
+
+    module _ (o : getD s (i + 1) 0 ≡ c → ⊥) where
+      past-second : firstAt s (i + 1 + 1) c ≡ r
+      past-second = find-more s (i + 1) c r past-first (omega arith) o
+
+      -- at the one after
+      pub find-third : getD s (i + 1 + 1) 0 ≡ c → i + 1 + 1 ≡ r
+      find-third = find-here s (i + 1 + 1) c r past-second (omega arith)
+
+      module _ (p : getD s (i + 1 + 1) 0 ≡ c → ⊥) where
+        past-third : firstAt s (i + 1 + 1 + 1) c ≡ r
+        past-third = find-more s (i + 1 + 1) c r past-second (omega arith) p
+
+        -- at the last
+        pub find-fourth : getD s (i + 1 + 1 + 1) 0 ≡ c → i + 1 + 1 + 1 ≡ r
+        find-fourth = find-here s (i + 1 + 1 + 1) c r past-third (omega arith)
+
+        -- at none of them
+        pub find-none : (getD s (i + 1 + 1 + 1) 0 ≡ c → ⊥) → firstAt s (i + 1 + 1 + 1 + 1) c ≡ r
+        find-none = find-more s (i + 1 + 1 + 1) c r past-third (omega arith)
+
 -- what a field says as a number
 module _ (most : ℕ) (s : List ℕ) where
   -- no digit

@@ -1,6 +1,6 @@
 // Bytes: the numbers, sets, words, lines and fields of which tables, logs and reports are made.
 ghost use mathlib.Core.Path.{_≡_};
-ghost use Prim.Native.Nat.{_+_, _<_, _≤_, _^_};
+ghost use Prim.Native.Nat.{_+_, _-_, _<_, _≤_, _^_};
 ghost use lib.ListN.{length};
 ghost use lib.Seq.{sets};
 ghost use lib.Dec.{leb};
@@ -246,11 +246,40 @@ pub fn same(a: &[u8], b: &[u8]) -> bool
     true
 }
 
+// How many of so many places have three more behind them.
+fn with_three(n: usize) -> usize
+    ensures { λ r. ⌜ r ≡ n - 3 ⌝ }
+{
+    if n < 3 {
+        return 0;
+    }
+    n - 3
+}
+
 // The place of the first b at or after a place, or the end: where a line or a field ends.
 pub fn next_byte(s: &[u8], at: usize, b: u8) -> usize
     ensures { λ r. ⌜ r ≡ firstAt (now (s .entry)) at b ⌝ }
 {
+    let most = with_three(s.len());
     let mut i = at;
+    while i < most {
+        if s[i] == b {
+            return i;
+        }
+        i += 1;
+        if s[i] == b {
+            return i;
+        }
+        i += 1;
+        if s[i] == b {
+            return i;
+        }
+        i += 1;
+        if s[i] == b {
+            return i;
+        }
+        i += 1;
+    }
     while i < s.len() {
         if s[i] == b {
             return i;
