@@ -17,38 +17,38 @@ use Rattle.log.specs.Lines.{longestLine}
 use Rattle.table.specs.Texts.{longest}
 use Rattle.engine.specs.Tallies.{Roomy}
 use Rattle.engine.specs.Play.{isClosed, Ready}
-use Rattle.engine.specs.Starts.{freshGoing}
 use Rattle.engine.specs.declared.Tally.{Tally}
 use Rattle.engine.specs.declared.Cycle.{Cycle}
 use Rattle.engine.specs.declared.Stop.the-variants.{Closed}
 use Rattle.engine.specs.declared.Going.{Going}
-use Rattle.engine.proofs.Starting.{fresh-ready}
 use Rattle.judging.specs.Cut.{isEnd, endIn, cutOf, linesEnd, wholeLines}
 use Rattle.judging.specs.Telling.{Tells}
 use Rattle.judging.specs.declared.Told.{Told}
 use Rattle.judging.proofs.Cuts.{end-start, end-none, end-last, end-here, end-more, end-less, lines-within}
 use Rattle.judging.proofs.Reporting.{put-length}
 
--- the table ends within the input: looked for from a place on, in so many turns
-table-within : (n : ℕ) (s : List ℕ) (at most limit : ℕ) → at ≤ length s → length s - at ≤ n → most ≤ limit → length s ≤ limit → endIn at (partsFrom 10 s at) most ≤ limit
-table-within zero s at most limit h l m k = omega (arith, end-none s at most _ h refl (omega arith))
-table-within (suc n) s at most limit h l m k =
-    let e = firstAt s at 10 in
-    order e (length s)
-    (λ i.
-    cases (isEnd (take (e - at) (drop at s)))
-    (λ y. omega (arith, end-here s at most _ h refl e refl i _ refl y))
-    (λ y.
-    let less = end-less s at most _ h refl e refl i in
-    let rest = table-within n s (e + 1) most limit (omega arith) (omega arith) m k in
-    omega (arith, end-more s at most _ h refl e refl i _ refl y)))
-    (λ i. omega (arith, end-last s at most _ h refl e refl i))
+-- the table ends within the input
+module _ (s : List ℕ) (most limit : ℕ) (m : most ≤ limit) (k : length s ≤ limit) where
+  -- here, or further on
+  line-within : (at e : ℕ) → at ≤ length s → e ≡ firstAt s at 10 → e < length s → endIn (e + 1) (partsFrom 10 s (e + 1)) most ≤ limit → endIn at (partsFrom 10 s at) most ≤ limit
+  line-within at e h f i rest =
+      cases (isEnd (take (e - at) (drop at s)))
+      (λ y. omega (arith, end-here s at most _ h refl e f i _ refl y))
+      (λ y. omega (arith, end-more s at most _ h refl e f i _ refl y))
+
+  -- in so many turns at most
+  table-within : (n at : ℕ) → at ≤ length s → length s - at ≤ n → endIn at (partsFrom 10 s at) most ≤ limit
+  table-within zero at h l = omega (arith, end-none s at most _ h refl (omega arith))
+  table-within (suc n) at h l =
+      order (firstAt s at 10) (length s)
+      (λ i. line-within at _ h refl i (table-within n (firstAt s at 10 + 1) (omega arith) (omega (arith, end-less s at most _ h refl _ refl i))))
+      (λ i. omega (arith, end-last s at most _ h refl _ refl i))
 
 pub cut-within : (s : List ℕ) (r : ℕ) → r ≡ cutOf s → r ≤ length s
 unfolding cutOf
 cut-within s r e =
     let k = length-take longest s in
-    let w = table-within (length (take longest s)) (take longest s) 0 (min (length s) (longest + 1)) (length s) (omega arith) (omega arith) (omega arith) (omega arith) in
+    let w = table-within (take longest s) (min (length s) (longest + 1)) (length s) (omega arith) (omega arith) (length (take longest s)) 0 (omega arith) (omega arith) in
     omega (arith, e, end-start (take longest s) (min (length s) (longest + 1)))
 
 -- whole lines end within what was read
@@ -61,15 +61,11 @@ whole-within s r e =
 pub first-within : (n k : ℕ) (s : List ℕ) → n ≤ length (take k s) → n ≤ length s
 first-within n k s h = omega (arith, length-take k s)
 
--- the fresh state may go on
-pub ready-start : {K : Table} (g : Going) → g ≡ freshGoing → Ready K g
-ready-start {K} g e = subst⁻¹ (Ready K) e (fresh-ready K)
-
 -- the counts can grow where the test found so
 pub may-judge : {c : Tally} {n : ℕ} (may : Bool) → (may ≡ true → Roomy c n) × (Roomy c n → may ≡ true) → not may ≡ false → Roomy c n
 may-judge may h y = h .0 (not-false may y)
 
--- no more bytes are needed than the ones read
+-- room for more is room for less
 pub roomy-less : {c : Tally} {n m : ℕ} → Roomy c n → m ≤ n → Roomy c m
 roomy-less h l = record {
   steps = omega (arith, h .steps);
@@ -86,7 +82,7 @@ put-within {buf} {text} {at = at} p h =
     (λ l. omega (arith, put-short l p .0, put-length p))
     (λ l. omega (arith, put-fits l p .0, put-length p))
 
--- the turns over a chunk: judged up to a place, with a full buffer of rows behind it and the next ones begun
+-- the turns over a chunk: judged up to a place, and the rows not yet written stand at the front of the buffer
 pub record Judges (K : Table) (chunk out : List ℕ) (g : Going) (at filled : ℕ) : Type 0 where
   pub ready : Ready K g
   pub within : at ≤ length chunk
@@ -102,7 +98,7 @@ module _ {K : Table} {log : List ℕ} {from : ℕ} {g : Going} {buf : List ℕ} 
   pub tells-length : length after ≡ length buf
   tells-length = ap length (t .bytes) ∙ length-sets buf place (t .text)
 
-  -- a run may go on from here, over no more bytes or others
+  -- what it leaves for the next chunk
   pub tells-done : Ready K (r .going) × Roomy (r .going .tally) 0
   tells-done = (t .ready, roomy-less (t .roomy) (omega arith))
 
@@ -111,7 +107,7 @@ module _ {K : Table} {log : List ℕ} {from : ℕ} {g : Going} {buf : List ℕ} 
     pub tells-less : length log - r .at < length log - from
     tells-less = let h : T (isClosed (r .stop)) = subst⁻¹ (λ w. T (isClosed w)) c tt in omega (arith, t .within, t .onward h)
 
-    -- its row is the first of the next ones
+    -- its row is the first of the next turn
     pub judges-more : {text out : List ℕ} {n : ℕ} → length buf ≡ 65536 → Put after 0 text n out → Judges K log out (r .going) (r .at) n
     judges-more e p = record {
       ready = t .ready;

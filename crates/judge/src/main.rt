@@ -81,20 +81,20 @@ fn judge_chunk(rows: &[u32], index: &[u32], chunk: &[u8], start: Going) -> Judge
         let n = told.filled;
         let stop = told.stop;
         let written = write(&out, n);
-        let Stop::Closed(k) = stop else {
-            return Judged {
-                going: g,
-                stop: stop,
-                written: written,
-            };
-        };
         if !written {
             return Judged {
                 going: g,
                 stop: stop,
-                written: written,
+                written: false,
             };
         }
+        let Stop::Closed(k) = stop else {
+            return Judged {
+                going: g,
+                stop: stop,
+                written: true,
+            };
+        };
         filled = judging::put_cycle(&mut out, 0, k);
     }
 }

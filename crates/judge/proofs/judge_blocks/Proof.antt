@@ -1,12 +1,15 @@
 -- `judge_blocks` is safe and ends: each block is read behind what is left of the one before.
 use Prim.Native.Nat.{_≤_, _-_}
 use mathlib.Core.Path.{_≡_}
+use mathlib.Core.List.{[]}
+use native.Mathlib.Omega.{arith}
 use lib.ListN.{length}
 use borrow.Author.Needs.{needs}
 use Rattle.prepared.specs.Prepared.{tableIn}
 use Rattle.engine.specs.Play.{Ready}
-use Rattle.judge.proofs.Blocks.{ready-start, first-within}
 use Rattle.judging.proofs.Cuts.{first-bytes}
+use Rattle.judging.proofs.Reporting.{fresh-start}
+use Rattle.judge.proofs.Blocks.{first-within}
 use Rattle.judge.proofs.judge_blocks.Statement.{statement}
 use Rattle.judge.proofs.judge_blocks.Tie as tie
 
@@ -20,7 +23,7 @@ fresh-going-requires : tie.Need-fresh-going-requires Inv-loop μ-loop
 fresh-going-requires c κs = search needs
 
 loop-holds : tie.Need-loop-holds Inv-loop μ-loop
-loop-holds c = search (needs, ready-start)
+loop-holds c = (fresh-start _ [] _ (c .fresh-going .ensures) (omega arith) .0, search needs, search needs)
 
 add-turns : tie.Need-add-turns Inv-loop μ-loop
 add-turns c = search needs

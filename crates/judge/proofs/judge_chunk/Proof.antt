@@ -28,11 +28,11 @@ slice-aggregate-write c = search (needs, tells-length)
 write-requires : tie.Need-write-requires Inv-loop μ-loop
 write-requires c κs = search needs
 
-enum-known-stop : tie.Need-enum-known-stop Inv-loop μ-loop
-enum-known-stop c = search needs
-
 returns : tie.Need-returns Inv-loop μ-loop
 returns c = search (tells-done)
+
+enum-known-stop : tie.Need-enum-known-stop Inv-loop μ-loop
+enum-known-stop c = search needs
 
 returns-2 : tie.Need-returns-2 Inv-loop μ-loop
 returns-2 c = search (tells-done)
@@ -60,8 +60,8 @@ judge-chunk-spec =
     put-kept-requires
     slice-aggregate-write
     write-requires
-    enum-known-stop
     returns
+    enum-known-stop
     returns-2
     slice-aggregate-put-cycle
     put-cycle-requires
