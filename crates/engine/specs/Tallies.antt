@@ -1,7 +1,6 @@
 -- What is counted beside a run: the numbers that the `sum` row needs.
 use Prim.Native.Nat.{ℕ, _+_, _-_, _≤_, max}
 use lib.Dec.{leb}
-use mathlib.Core.Bool.{Bool, true, false}
 use Rattle.text.specs.Parts.{pick}
 use Rattle.model.specs.Tests.{_or_}
 use Rattle.model.specs.Tables.{Table}

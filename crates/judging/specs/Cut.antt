@@ -1,7 +1,7 @@
 -- What the program takes from standard input at a time. First, cut into table and log: "the table up to and with the first line that begins `end` and a tab (if none lies within 32,768
 -- bytes, the first 32,769 bytes or all there is), then the log".
 use Prim.Native.Nat.{ℕ, suc, _+_, _-_, min}
-use mathlib.Core.Bool.{Bool, true, false}
+use mathlib.Core.Bool.{Bool}
 use mathlib.Core.List.{List, [], _∷_}
 use lib.ListN.{length, take}
 use lib.Dec.{eqb, ltb}

@@ -2,7 +2,7 @@
 use Prim.Native.Nat.{ℕ, _+_, _-_, _/_, _≤_, _<_, max}
 use lib.Dec.{T, leb}
 use mathlib.Core.List.{List, [], _∷_, _++_}
-use mathlib.Core.Bool.{Bool, true, false}
+use mathlib.Core.Bool.{Bool, false}
 use mathlib.Core.Path.{_≡_}
 use lib.ListN.{length, drop}
 use lib.Seq.{sets}
@@ -10,7 +10,7 @@ use Rattle.text.specs.Parts.{splitOn}
 use Rattle.model.specs.Tests.{_and_}
 use Rattle.model.specs.Tables.{Table}
 use Rattle.model.specs.Logs.{reached, most}
-use Rattle.model.specs.Cycles.{KeptRow, SumRow, keptIn, droppedIn, openedIn, managing, stepsOf, stopOn, lineOf}
+use Rattle.model.specs.Cycles.{SumRow, keptIn, droppedIn, openedIn, managing, stepsOf, stopOn, lineOf}
 use Rattle.model.specs.declared.State.{State}
 use Rattle.model.specs.declared.Step.{Step}
 use Rattle.model.specs.declared.Line.{Line}

@@ -29,7 +29,7 @@ use table::Table;
 const LAYOUT: u64 = 1;
 
 // The longest `kept` row.
-pub const LONGEST_KEPT: usize = 75;
+const LONGEST_KEPT: usize = 75;
 
 // The header's width, and its width with that of the longest `sum` row.
 const HEAD: usize = 9;

@@ -19,7 +19,7 @@ use model::Step;
 use model::Task;
 
 // The number of an activity's codel where it executes none.
-pub const NO_CODEL: usize = 256;
+const NO_CODEL: usize = 256;
 
 // "d from 1 to 1,000,000,000"
 const MOST_TICKS: u64 = 1000000000;
