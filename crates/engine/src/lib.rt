@@ -197,7 +197,7 @@ fn with_flags(y: Act, run: bool, halt: bool) -> Act
     let mut v = y;
     v.run = run;
     v.halt = halt;
-    v
+    rules::act_anew(v)
 }
 
 // An activity of an `sm`'s task, put into N and R as its sets say.
@@ -221,7 +221,7 @@ fn opened_task(date: u64, x: Task) -> Task
     u.managing = true;
     u.cycle = x.cycle + 1;
     u.opened = date;
-    u
+    rules::task_anew(u)
 }
 
 // "kept if close date minus open date is at least the task's keep, or missed is at least 1; else dropped"
@@ -356,7 +356,7 @@ pub fn run(rows: &[u32], index: &[u32], log: &[u8], from: usize, g: Going) -> Ra
                 if waits::hinders(rows, index, &busy, x, y) {
                     return left_at(s, busy, listed, c, at, Stop::Refused(16));
                 }
-                room = waits::both(room, waits::has_room(rows, index, d, k, x, y));
+                room = rules::both(room, waits::has_room(rows, index, d, k, x, y));
                 k += 1;
             }
             let n = waits::wait_number(room, s.date, d);

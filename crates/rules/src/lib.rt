@@ -53,7 +53,8 @@ fn enter_again(rows: &[u32], index: &[u32], y: Act) -> Act
     }
 }
 
-fn larger(a: u64, b: u64) -> u64
+// The larger of two numbers.
+pub fn larger(a: u64, b: u64) -> u64
     ensures { λ r. ⌜ r ≡ max a b ⌝ }
 {
     if a < b {
@@ -140,13 +141,66 @@ fn finished(x: Task) -> Task
     u
 }
 
+fn holder_anew(h: Holder) -> Holder
+    ensures { λ r. ⌜ r ≡ h ⌝ }
+{
+    match h {
+        Holder::Manager => Holder::Manager,
+        Holder::Activity(a) => Holder::Activity(a),
+    }
+}
+
+fn place_anew(p: Place) -> Place
+    ensures { λ r. ⌜ r ≡ p ⌝ }
+{
+    match p {
+        Place::Ether => Place::Ether,
+        Place::Codel(c) => Place::Codel(c),
+    }
+}
+
+// A task's record made anew, field by field: a copy would also carry the bytes that lie between the fields.
+pub fn task_anew(x: Task) -> Task
+    ensures { λ r. ⌜ r ≡ x ⌝ }
+{
+    let g = x.holder;
+    let h = holder_anew(g);
+    Task {
+        timer: x.timer,
+        signal: x.signal,
+        managing: x.managing,
+        holder: h,
+        cycle: x.cycle,
+        opened: x.opened,
+        missed: x.missed,
+        longest: x.longest,
+    }
+}
+
+// The same for an activity's record.
+pub fn act_anew(y: Act) -> Act
+    ensures { λ r. ⌜ r ≡ y ⌝ }
+{
+    let q = y.place;
+    let p = place_anew(q);
+    Act {
+        place: p,
+        executing: y.executing,
+        clock: y.clock,
+        run: y.run,
+        halt: y.halt,
+    }
+}
+
 fn refused(n: u64, x: Task, y: Act) -> Told
     ensures { λ r. ⌜ r ≡ told n x y ⌝ }
 {
+    let u = task_anew(x);
+    let v = act_anew(y);
     Told {
         number: n,
-        task: x,
-        act: y,
+        task: u,
+        act: v,
     }
 }
 
@@ -211,6 +265,16 @@ fn do_lm(rows: &[u32], index: &[u32], t: usize, a: usize, x: Task, y: Act) -> To
     let u = with_holder(x, Holder::Activity(a), 0);
     let v = enter_again(rows, index, y);
     refused(0, u, v)
+}
+
+// Both of the two.
+pub fn both(a: bool, b: bool) -> bool
+    ensures { λ r. ⌜ r ≡ a and b ⌝ }
+{
+    if a {
+        return b;
+    }
+    false
 }
 
 // One of the two, or both.

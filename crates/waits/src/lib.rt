@@ -4,7 +4,7 @@ ghost use mathlib.Core.Path.{_≡_};
 ghost use Prim.Native.Nat.{_+_, _<_, _≤_, _^_};
 ghost use lib.ListN.{length};
 ghost use lib.Dec.{T, leb};
-ghost use Rattle.model.specs.Tests.{_and_, need};
+ghost use Rattle.model.specs.Tests.{need};
 ghost use Rattle.model.specs.Limits.{inRange, mostTicks, ceiling};
 ghost use Rattle.model.specs.Tables.{known};
 ghost use Rattle.model.specs.Rules.{within};
@@ -157,16 +157,6 @@ pub fn in_range(d: u64) -> bool
         return false;
     }
     d <= MOST_TICKS
-}
-
-// Do two tests hold? So a loop over the tasks keeps whether all have room.
-pub fn both(a: bool, b: bool) -> bool
-    ensures { λ r. ⌜ r ≡ a and b ⌝ }
-{
-    if a {
-        return b;
-    }
-    false
 }
 
 // The activity that holds, 0 where the manager does: the row of it that the tests of a task are given.

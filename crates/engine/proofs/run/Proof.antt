@@ -242,7 +242,7 @@ mul-s : tie.Need-mul-s Inv-loop2 μ-loop2 Inv-loop3 μ-loop3 Inv-loop4 μ-loop4 
 mul-s c = search (needs, task-fits)
 
 way-write-given-s : tie.Need-way-write-given-s Inv-loop2 μ-loop2 Inv-loop3 μ-loop3 Inv-loop4 μ-loop4 Inv-loop μ-loop
-way-write-given-s c = search (task-fits, tt)
+way-write-given-s c = search task-fits
 
 add-m : tie.Need-add-m Inv-loop2 μ-loop2 Inv-loop3 μ-loop3 Inv-loop4 μ-loop4 Inv-loop μ-loop
 add-m c = search (needs, task-fits)
@@ -272,7 +272,7 @@ mul-s-2 : tie.Need-mul-s-2 Inv-loop2 μ-loop2 Inv-loop3 μ-loop3 Inv-loop4 μ-lo
 mul-s-2 c = omega (arith, holder-fits (c .before .before .before .before .before .before .before .before .before .loop3 .inv) (c .before .before .before .before .before .before .before .before .loop3-test .taken) _ (c .before .before .before .h .given .1))
 
 way-write-given-s-2 : tie.Need-way-write-given-s-2 Inv-loop2 μ-loop2 Inv-loop3 μ-loop3 Inv-loop4 μ-loop4 Inv-loop μ-loop
-way-write-given-s-2 c = search (holder-fits, tt)
+way-write-given-s-2 c = search holder-fits
 
 loop3-less-2 : tie.Need-loop3-less-2 Inv-loop2 μ-loop2 Inv-loop3 μ-loop3 Inv-loop4 μ-loop4 Inv-loop μ-loop
 loop3-less-2 c = search needs

@@ -1,0 +1,13 @@
+-- `act_anew` meets its contract.
+use borrow.Author.Needs.{needs}
+use Rattle.rules.proofs.act_anew.Statement.{statement}
+use Rattle.rules.proofs.act_anew.Tie as tie
+
+place-anew-requires : tie.Need-place-anew-requires
+place-anew-requires c κs = search needs
+
+returns : tie.Need-returns
+returns c = rw (c .place-anew .ensures)
+
+pub act-anew-spec : {M : Type 1} → statement M
+act-anew-spec = tie.close (tie.spec place-anew-requires returns)
