@@ -10,6 +10,7 @@
 #else
 #include "tuned.h"
 #endif
+#include "alike.h"
 
 enum { LONGEST_ROW = 224, WINDOW = 64, STAGE = 65536 };
 

@@ -54,8 +54,6 @@ static void start_fresh(engine_t *e, const table_t *t) {
     for (unsigned i = 0; i < t->count[ACT]; i++) e->act[i] = (act_t){.at = ETHER};
 }
 
-static inline bool is_managing(const engine_t *e, unsigned task) { return e->task[task].managing; }
-
 static bool has_edge(const engine_t *e, int codel, int target, bool pause) {
     for (unsigned i = e->first_edge[codel]; i < e->first_edge[codel + 1]; i++)
         if (e->table->edge[i].target == target) return e->table->edge[i].pause == pause;
@@ -142,19 +140,6 @@ static unsigned do_st(engine_t *e, uint64_t task) {
     t->timer = 0;
     if (t->signal && t->managing) t->missed++;
     t->signal = true;
-    return 0;
-}
-
-static unsigned do_sm(engine_t *e, uint64_t task, uint64_t n, uint64_t r) {
-    if (task >= e->table->count[TASK] || (n | r) & ~e->table->task[task].members) return 12;
-    task_t *t = &e->task[task];
-    if (t->managing || !t->signal) return 13;
-    t->signal = false;
-    t->managing = true;
-    t->to_run = n;
-    t->to_interrupt = r;
-    t->cycle++;
-    t->open = e->date;
     return 0;
 }
 

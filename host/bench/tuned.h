@@ -84,8 +84,6 @@ static void start_fresh(engine_t *e, const table_t *t) {
     }
 }
 
-static inline bool is_managing(const engine_t *e, unsigned task) { return e->task[task].managing; }
-
 static inline void start_clock(engine_t *e, unsigned task, const codel_t *codel) {
     uint64_t end = e->date + codel->limit;
     e->clock_end[task] = end;
@@ -157,19 +155,6 @@ static inline unsigned do_st(engine_t *e, uint64_t task) {
     if (!t->managing) e->ready |= 1u << task;
     else t->missed += t->signal;
     t->signal = true;
-    return 0;
-}
-
-static inline unsigned do_sm(engine_t *e, uint64_t task, uint64_t n, uint64_t r) {
-    if (task >= e->table->count[TASK] || (n | r) & ~e->table->task[task].members) return 12;
-    task_t *t = &e->task[task];
-    if (t->managing || !t->signal) return 13;
-    t->signal = false;
-    t->managing = true;
-    t->to_run = n;
-    t->to_interrupt = r;
-    t->cycle++;
-    t->open = e->date;
     return 0;
 }
 
