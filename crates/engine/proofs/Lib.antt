@@ -9,4 +9,4 @@ pub mod Managing
 pub mod Stepping
 pub mod Answers
 pub mod Starting
-pub mod Single
+pub mod Unique

@@ -15,6 +15,7 @@ use Rattle.model.specs.declared.State.{State}
 use Rattle.model.specs.declared.Step.{Step}
 use Rattle.model.specs.declared.Line.the-variants.{Is, Bad}
 use Rattle.log.specs.Lines.{readStep}
+use Rattle.log.proofs.Shapes.{no-step}
 use Rattle.engine.specs.Play.{pieces, stopped, onStep, onLine, played}
 use Rattle.engine.specs.Turns.{lineAt}
 use Rattle.engine.specs.declared.Tally.{Tally}
@@ -25,9 +26,6 @@ from-here : (log : List ℕ) (at e : ℕ) → at ≤ length log → e ≡ firstA
 from-here log at e h f =
     let q : partsFrom 10 log at ≡ pieces log at = rw (le-ltb _ _ h) in
     sym q ∙ rw f (parts-cut 10 log at h)
-
-no-bad : (x : Step) → Bad ≡ Is x → ⊥
-no-bad x e = let z : _≡_ {A = ℕ} 0 1 = cc in omega arith
 
 module _ (K : Table) (s : State) (c : Tally) (log : List ℕ) where
   -- at the end there is no line
@@ -76,7 +74,7 @@ module _ (K : Table) (s : State) (c : Tally) (log : List ℕ) where
       pub step-ends : e < length log
       step-ends = order e (length log) (λ l. l) (λ l.
           let q : e ≡ length log = omega (arith, part-ends log at e 10 before-end f) in
-          absurd (no-bad x (rw (eq-eqb _ _ q) at i)))
+          absurd (no-step (rw (eq-eqb _ _ q) at i)))
 
       pub at-step : played K s c (pieces log at) ≡ onStep K s c x (pieces log at) (pieces log (e + 1)) (λ w d. played K w d (pieces log (e + 1)))
       at-step = ended step-ends ∙ rw i

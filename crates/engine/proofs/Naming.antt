@@ -17,14 +17,14 @@ use Rattle.model.specs.declared.Step.{Step}
 use Rattle.model.proofs.Tests.{true-T}
 use Rattle.model.proofs.Soundness.{FineTask, task-at}
 use Rattle.prepared.proofs.Stored.{most-tasks, most-acts}
-use Rattle.rules.specs.Local.{named, taskIn, actIn}
-use Rattle.rules.proofs.Steps.{unnamed-refusal}
+use Rattle.rules.specs.Local.{named, taskIn, actIn, ofTask}
+use Rattle.rules.proofs.Steps.{task-unnamed, local-unnamed}
 use Rattle.waits.proofs.Facts.{place-known, missed-fits, act-in, task-in}
 use Rattle.engine.specs.Play.{ranOf}
 use Rattle.engine.specs.Turns.{isSm}
 use Rattle.engine.specs.declared.Stop.the-variants.{Refused}
 use Rattle.engine.specs.declared.Ran.{Ran}
-use Rattle.engine.proofs.StepKinds.{sm-is, local-is}
+use Rattle.engine.proofs.StepKinds.{sm-is, act-is}
 use Rattle.engine.proofs.Runs.{busy-sized, listed-sized, Scene, table, Turn, StopsAs, here, sound-here, turn-stops}
 
 unnamed : (K : Table) (s : State) (x : Step) → isWait x ≡ false → named K x ≡ false → refusal K s x ≡ 12
@@ -35,7 +35,7 @@ unnamed K s x w h =
     let i = sm-is x e in
     let k : ltb (i .0) (K .ntasks) ≡ false = ap (named K) (sym (i .3)) ∙ h in
     rw (i .3, k))
-    (λ e. unnamed-refusal K s x (local-is x w e) h)
+    (λ e. cases (ofTask x) (λ o. task-unnamed K s x (true-T _ o) h) (λ o. local-unnamed K s x (act-is x w e o) h))
 
 -- a turn at a step that is not a wait and names rows that exist
 pub record Names (σ : Scene) : Type 0 where

@@ -1,10 +1,12 @@
 -- A run, line after line: what its loop keeps, where it stops, and how an accepted step takes it on.
 use Prim.Native.Nat.{ℕ, _+_, _-_, _≤_, _<_}
-use mathlib.Core.List.{List}
+use mathlib.Core.List.{List, [], _∷_}
 use mathlib.Core.Path.{_≡_, refl, ap, sym, subst⁻¹, _∙_}
 use native.Mathlib.Omega.{arith}
 use borrow.Author.Tests.{ne-eqb}
 use lib.Dec.{T}
+use types.Run.{OneOf, hit, miss}
+use denote.Enum.Declared.{tagOf}
 use lib.ListN.{length, length-map}
 use Rattle.text.specs.Parts.{firstAt}
 use Rattle.text.proofs.Turns.{part-starts}
@@ -27,11 +29,12 @@ use Rattle.engine.specs.Turns.{lineAt}
 use Rattle.engine.specs.declared.Tally.{Tally}
 use Rattle.engine.specs.declared.Cycle.{Cycle}
 use Rattle.engine.specs.declared.Ruling.{Ruling}
-use Rattle.engine.specs.declared.Ruling.the-variants.{Open, Kept, Dropped}
+use Rattle.engine.specs.declared.Ruling.the-variants.{Open, Kept}
 use Rattle.engine.specs.declared.Stop.{Stop}
 use Rattle.engine.specs.declared.Stop.the-variants.{End, Refused, Closed}
 use Rattle.engine.specs.declared.Going.{Going}
 use Rattle.engine.specs.declared.Ran.{Ran}
+use Rattle.engine.proofs.Ruling.{the-type}
 use Rattle.engine.proofs.Lines.{at-end, at-bad, step-ends, at-step}
 use Rattle.engine.proofs.Tallying.{roomy-one}
 
@@ -85,15 +88,11 @@ module _ (K : Table) (log : List ℕ) (from : ℕ) (g : Going) where
 
 -- what an accepted step comes to, by its verdict as the code has it
 module _ (s : State) (c : Tally) (ls : List (List ℕ)) (go : Played) where
-  on-open : (v : Verdict) → rulingOf v ≡ Open → onVerdict v s c ls go ≡ go
-  on-open none e = refl
-  on-open (kept r) e = let z : _≡_ {A = ℕ} 0 1 = cc in absurd (omega arith)
-  on-open dropped e = refl
-
-  on-dropped : (v : Verdict) → rulingOf v ≡ Dropped → onVerdict v s c ls go ≡ go
-  on-dropped none e = refl
-  on-dropped (kept r) e = let z : _≡_ {A = ℕ} 0 1 = cc in absurd (omega arith)
-  on-dropped dropped e = refl
+  -- every verdict but that it is kept
+  on-passed : (v : Verdict) → OneOf (0 ∷ 2 ∷ []) (tagOf the-type (rulingOf v)) → onVerdict v s c ls go ≡ go
+  on-passed none h = refl
+  on-passed (kept r) h = absurd (miss (0 ∷ 2 ∷ []) 1 tt h)
+  on-passed dropped h = refl
 
   on-kept : (v : Verdict) (k : Cycle) → rulingOf v ≡ Kept k → onVerdict v s c ls go ≡ stopped s c (Closed k) ls
   on-kept none k e = let z : _≡_ {A = ℕ} 0 1 = cc in absurd (omega arith)
@@ -204,11 +203,11 @@ module _ {σ : Scene} {w : State} {b l : List ℕ} {d : Tally} {v : Ruling} (G :
   played-after = played-here (G .turn) ∙ rw (G .accepted, G .state, G .tally)
 
   -- no cycle is kept
-  pub turn-open : v ≡ Open → GoesOn σ w b l d
-  turn-open i = record { here = after; rest = sym (played-after ∙ on-open w d _ _ (given σ) (sym (G .ruling) ∙ i)) }
+  pub turn-passed : OneOf (0 ∷ 2 ∷ []) (tagOf the-type v) → GoesOn σ w b l d
+  turn-passed h = record { here = after; rest = sym (played-after ∙ on-passed w d _ _ (given σ) (rw (G .ruling) at h)) }
 
-  pub turn-dropped : v ≡ Dropped → GoesOn σ w b l d
-  turn-dropped i = record { here = after; rest = sym (played-after ∙ on-dropped w d _ _ (given σ) (sym (G .ruling) ∙ i)) }
+  pub turn-open : v ≡ Open → GoesOn σ w b l d
+  turn-open e = turn-passed (rw e (hit (0 ∷ 2 ∷ []) 0 tt))
 
   -- a cycle is kept
   pub turn-kept : (k : Cycle) → v ≡ Kept k → (r : Ran) → r ≡ ranOf w b l d (σ .newline + 1) (Closed k) → StopsAs σ r

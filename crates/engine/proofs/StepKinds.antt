@@ -1,4 +1,4 @@
--- What kind of step the tests found: a wait, an `sm`, or one that touches a task's and an activity's record.
+-- What kind of step the tests found: a wait, an `sm`, one of a task or one of an activity.
 use Prim.Native.Nat.{ℕ}
 use mathlib.Core.Bool.{true, false}
 use mathlib.Core.Path.{_≡_, refl, sym}
@@ -7,7 +7,8 @@ use Rattle.text.proofs.Picks.{false-true}
 use Rattle.model.specs.Logs.{isWait}
 use Rattle.model.specs.declared.Step.{Step}
 use Rattle.model.specs.declared.Step.the-variants.{Wait, St, Sm, Lm, Ia, Ea, Cx, Fa, Fm}
-use Rattle.rules.specs.Local.{isLocal}
+use Rattle.model.specs.Cycles.{opens}
+use Rattle.rules.specs.Local.{ofTask, ofAct}
 use Rattle.engine.specs.Turns.{ticksOf, isSm}
 
 pub wait-is : (x : Step) → isWait x ≡ true → x ≡ Wait (ticksOf x)
@@ -32,13 +33,25 @@ sm-is (Cx a) e = absurd (false-true e)
 sm-is (Fa a p) e = absurd (false-true e)
 sm-is (Fm t) e = absurd (false-true e)
 
-pub local-is : (x : Step) → isWait x ≡ false → isSm x ≡ false → T (isLocal x)
-local-is (Wait d) e f = absurd (false-true (sym e))
-local-is (St t) e f = tt
-local-is (Sm t n r) e f = absurd (false-true (sym f))
-local-is (Lm t a) e f = tt
-local-is (Ia a) e f = tt
-local-is (Ea a c) e f = tt
-local-is (Cx a) e f = tt
-local-is (Fa a p) e f = tt
-local-is (Fm t) e f = tt
+pub act-is : (x : Step) → isWait x ≡ false → isSm x ≡ false → ofTask x ≡ false → T (ofAct x)
+act-is (Wait d) e f g = absurd (false-true (sym e))
+act-is (St t) e f g = absurd (false-true (sym g))
+act-is (Sm t n r) e f g = absurd (false-true (sym f))
+act-is (Lm t a) e f g = tt
+act-is (Ia a) e f g = tt
+act-is (Ea a c) e f g = tt
+act-is (Cx a) e f g = tt
+act-is (Fa a p) e f g = tt
+act-is (Fm t) e f g = absurd (false-true (sym g))
+
+-- only `sm` opens a cycle
+pub opens-none : (x : Step) → isSm x ≡ false → opens x ≡ 0
+opens-none (Wait d) e = refl
+opens-none (St t) e = refl
+opens-none (Sm t n r) e = absurd (false-true (sym e))
+opens-none (Lm t a) e = refl
+opens-none (Ia a) e = refl
+opens-none (Ea a c) e = refl
+opens-none (Cx a) e = refl
+opens-none (Fa a p) e = refl
+opens-none (Fm t) e = refl

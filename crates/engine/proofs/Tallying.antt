@@ -12,11 +12,13 @@ use Rattle.model.specs.Cycles.{Verdict, none, kept, dropped, verdict, keeps, op
 use Rattle.model.specs.declared.State.{State}
 use Rattle.model.specs.declared.Step.{Step}
 use Rattle.model.specs.declared.Step.the-variants.{Wait, St, Sm, Lm, Ia, Ea, Cx, Fa, Fm}
-use Rattle.rules.specs.Local.{taskIn, isLocal}
+use Rattle.rules.specs.Local.{taskIn, ofAct}
 use Rattle.engine.specs.Tallies.{rulingOf, counted, tallied, afterWait, afterSm, afterStep, ruledBy, rulingBy, Roomy}
+use Rattle.engine.specs.Turns.{isSm}
 use Rattle.engine.specs.declared.Tally.{Tally}
 use Rattle.engine.specs.declared.Ruling.{Ruling}
 use Rattle.engine.specs.declared.Ruling.the-variants.{Open, Kept, Dropped}
+use Rattle.engine.proofs.StepKinds.{opens-none}
 
 -- the verdict told by the task's record
 module _ (K : Table) (s : State) where
@@ -37,6 +39,19 @@ module _ (K : Table) (s : State) where
   ruling-is (Fa a p) = refl
   ruling-is (Fm t) = closes t (keeps K s t) refl
 
+  -- a step of an activity gives none
+  pub act-open : (x : Step) → T (ofAct x) → Open ≡ rulingOf (verdict K s x)
+  unfolding verdict
+  act-open (Wait d) l = absurd l
+  act-open (St t) l = absurd l
+  act-open (Sm t n r) l = absurd l
+  act-open (Lm t a) l = refl
+  act-open (Ia a) l = refl
+  act-open (Ea a c) l = refl
+  act-open (Cx a) l = refl
+  act-open (Fa a p) l = refl
+  act-open (Fm t) l = absurd l
+
   -- the tally after a step, by its kind
   module _ (c : Tally) where
     pub wait-counts : (d : ℕ) → afterWait c ≡ tallied K s (Wait d) c
@@ -52,16 +67,8 @@ module _ (K : Table) (s : State) where
     by-verdict x (kept r) e f = rw (e, f) (simp add-zero)
     by-verdict x dropped e f = rw (e, f) (simp add-zero)
 
-    pub step-counts : (x : Step) → T (isLocal x) → afterStep c (rulingOf (verdict K s x)) ≡ tallied K s x c
-    step-counts (Wait d) l = absurd l
-    step-counts (St t) l = by-verdict (St t) (verdict K s (St t)) refl refl
-    step-counts (Sm t n r) l = absurd l
-    step-counts (Lm t a) l = by-verdict (Lm t a) (verdict K s (Lm t a)) refl refl
-    step-counts (Ia a) l = by-verdict (Ia a) (verdict K s (Ia a)) refl refl
-    step-counts (Ea a b) l = by-verdict (Ea a b) (verdict K s (Ea a b)) refl refl
-    step-counts (Cx a) l = by-verdict (Cx a) (verdict K s (Cx a)) refl refl
-    step-counts (Fa a p) l = by-verdict (Fa a p) (verdict K s (Fa a p)) refl refl
-    step-counts (Fm t) l = by-verdict (Fm t) (verdict K s (Fm t)) refl refl
+    pub step-counts : (x : Step) → isWait x ≡ false → isSm x ≡ false → afterStep c (rulingOf (verdict K s x)) ≡ tallied K s x c
+    step-counts x w m = by-verdict x (verdict K s x) (opens-none x m) w
 
 -- room for one more, and what is left then
 module _ (c : Tally) (n : ℕ) (R : Roomy c n) where

@@ -75,8 +75,8 @@ module _ {K : Table} {s : State} {d nt : ℕ} {u : State} {m : ℕ} (A : Ages K 
       held-in : (a < K .nacts) × (K .task a ≡ m)
       held-in = holder-in K s (A .asks .sound) m a (omega (arith, A .asks .all)) held
 
-      pub holder-fits : a < 64
-      holder-fits = omega (arith, held-in .0, A .asks .formed .fits .1)
+      pub ager-fits : a < 64
+      ager-fits = omega (arith, held-in .0, A .asks .formed .fits .1)
 
       pub clock-small : actAt u a .clock ≤ mostTicks
       clock-small =

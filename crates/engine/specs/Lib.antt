@@ -2,4 +2,3 @@ pub mod Tallies
 pub mod Play
 pub mod Turns
 pub mod Starts
-pub mod Stepping

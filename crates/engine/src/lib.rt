@@ -1,4 +1,4 @@
-// The engine: a log played line after line on a state that is changed in place, and one step with everything given by value.
+// The engine: a log played line after line on a state that is changed in place.
 ghost use mathlib.Core.Path.{_≡_};
 ghost use Prim.Native.Nat.{_-_, _<_, _≤_};
 ghost use lib.ListN.{length};
@@ -8,15 +8,12 @@ ghost use Rattle.model.specs.Limits.{mostTicks, ceiling};
 ghost use Rattle.model.specs.States.{fresh};
 ghost use Rattle.model.specs.Logs.{isWait};
 ghost use Rattle.model.specs.Rules.{managed, aged};
-ghost use Rattle.model.specs.Sound.{sound};
-ghost use Rattle.log.specs.Lines.{readLine};
 ghost use Rattle.prepared.specs.Prepared.{tableIn, Prepared};
 ghost use Rattle.rules.specs.Local.{named};
 ghost use Rattle.engine.specs.Tallies.{ruledBy, rulingBy, afterWait, afterSm, afterStep, Roomy};
 ghost use Rattle.engine.specs.Play.{ranOf, Ready, Runs};
 ghost use Rattle.engine.specs.Turns.{lineAt, ticksOf, isSm, smNumber, smBy, inLists, flagged};
 ghost use Rattle.engine.specs.Starts.{goingFrom, freshGoing};
-ghost use Rattle.engine.specs.Stepping.{lineStepped, stepped};
 use model::Act;
 use model::Holder;
 use model::Line;
@@ -24,8 +21,6 @@ use model::Place;
 use model::State;
 use model::Step;
 use model::Task;
-use table::Answer;
-use table::Table;
 
 // What is counted beside a run: accepted steps, cycles opened, kept and dropped, the steps since the last wait, and the most of the
 // stretches that a wait has ended.
@@ -75,12 +70,6 @@ pub struct Ran {
     pub going: Going,
     pub at: usize,
     pub stop: Stop,
-}
-
-// A step's refusal, 0 for none, and the state behind it.
-pub struct Stepped {
-    pub number: u64,
-    pub state: State,
 }
 
 // The line from a place up to the newline at e; none where the log ends first.
@@ -351,13 +340,23 @@ pub fn run(rows: &[u32], index: &[u32], log: &[u8], from: usize, g: Going) -> Ra
             while k < nt {
                 let x = s.tasks[k];
                 let h = x.holder;
-                let a = waits::held_in(h);
-                let y = s.acts[a];
-                if waits::hinders(rows, index, &busy, x, y) {
-                    return left_at(s, busy, listed, c, at, Stop::Refused(16));
-                }
-                room = rules::both(room, waits::has_room(rows, index, d, k, x, y));
+                let timely = waits::timer_room(rows, index, d, k, x.timer);
+                room = rules::both(room, timely);
                 k += 1;
+                match h {
+                    Holder::Manager => {
+                        if rules::either(x.managing, x.signal) {
+                            return left_at(s, busy, listed, c, at, Stop::Refused(16));
+                        }
+                    }
+                    Holder::Activity(a) => {
+                        let y = s.acts[a];
+                        if waits::act_hinders(rows, index, &busy, y) {
+                            return left_at(s, busy, listed, c, at, Stop::Refused(16));
+                        }
+                        room = rules::both(room, waits::act_room(rows, index, d, y));
+                    }
+                }
             }
             let n = waits::wait_number(room, s.date, d);
             if n != 0 {
@@ -409,11 +408,28 @@ pub fn run(rows: &[u32], index: &[u32], log: &[u8], from: usize, g: Going) -> Ra
             at = e + 1;
             continue;
         }
+        if rules::is_of_task(st) {
+            let empty = waits::is_empty_for(rows, index, &listed, st);
+            let told = rules::task_step(rows, index, st, empty, x);
+            let n = told.number;
+            if n != 0 {
+                return left_at(s, busy, listed, c, at, Stop::Refused(n));
+            }
+            let u = told.task;
+            s.tasks[ti] = u;
+            let w = ruling_of(rows, index, st, s.date, x);
+            c = after_step(c, w);
+            at = e + 1;
+            let Ruling::Kept(k) = w else {
+                continue;
+            };
+            return left_at(s, busy, listed, c, at, Stop::Closed(k));
+        }
         let ai = rules::act_in(st);
         let y = s.acts[ai];
         let p = y.place;
-        let aside = waits::aside_of(rows, index, &busy, &listed, st, p);
-        let told = rules::local_step(rows, index, st, aside, x, y);
+        let clear = waits::is_clear_for(rows, index, &busy, st, p);
+        let told = rules::local_step(rows, index, st, clear, x, y);
         let n = told.number;
         if n != 0 {
             return left_at(s, busy, listed, c, at, Stop::Refused(n));
@@ -424,22 +440,14 @@ pub fn run(rows: &[u32], index: &[u32], log: &[u8], from: usize, g: Going) -> Ra
         s.acts[ai] = v;
         busy[ai] = waits::busy_of(v);
         listed[ai] = waits::listed_of(v);
-        let w = ruling_of(rows, index, st, s.date, x);
-        c = after_step(c, w);
+        c = after_step(c, Ruling::Open);
         at = e + 1;
-        match w {
-            Ruling::Open => {}
-            Ruling::Kept(k) => {
-                return left_at(s, busy, listed, c, at, Stop::Closed(k));
-            }
-            Ruling::Dropped => {}
-        }
     }
     left_at(s, busy, listed, c, at, Stop::End)
 }
 
 // What a run carries that starts at a state, with nothing counted yet.
-fn going_from(s: State) -> Going
+pub fn going_from(s: State) -> Going
     ensures { λ r. ⌜ r ≡ goingFrom s ⌝ }
 {
     let mut busy = [0usize; model::MOST_ACTS];
@@ -501,54 +509,4 @@ pub fn fresh_going() -> Going
     ensures { λ r. ⌜ r ≡ freshGoing ⌝ }
 {
     going_from(fresh_state())
-}
-
-// A line's step on a sound state: a run over that one line. "A refusal returns the number and the state as it came."
-fn step_line(rows: &[u32], index: &[u32], s: State, line: &[u8]) -> Stepped
-    requires { ⌜ Prepared (now rows) (now index) × T (sound (tableIn (now rows) (now index)) s) ⌝ }
-    ensures { λ r. ⌜ r ≡ lineStepped (tableIn (now (rows .entry)) (now (index .entry))) s (readLine (now (line .entry))) ⌝ }
-{
-    let Line::Is(_) = log::read_line(line) else {
-        return Stepped {
-            number: 11,
-            state: s,
-        };
-    };
-    let r = run(rows, index, line, 0, going_from(s));
-    let stop = r.stop;
-    let going = r.going;
-    let reached = going.state;
-    let Stop::Refused(n) = stop else {
-        return Stepped {
-            number: 0,
-            state: reached,
-        };
-    };
-    Stepped {
-        number: n,
-        state: s,
-    }
-}
-
-// One step with everything given by value: the table, the state, and the line with its newline.
-pub fn step(t: Table, s: State, line: &[u8]) -> Stepped
-    ensures { λ r. ⌜ r ≡ stepped t s (now (line .entry)) ⌝ }
-{
-    let checked = table::check_table(t);
-    let verdict = checked.answer;
-    let Answer::Fine = verdict else {
-        return Stepped {
-            number: 19,
-            state: s,
-        };
-    };
-    let index = preparing::index_of(t);
-    let rows = t.rows;
-    if !soundness::is_sound(&rows, &index, s) {
-        return Stepped {
-            number: 19,
-            state: s,
-        };
-    }
-    step_line(&rows, &index, s, line)
 }

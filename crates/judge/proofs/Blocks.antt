@@ -1,68 +1,33 @@
--- The log judged block after block: what a part of a block takes at most, and what the turns over a chunk carry.
-use Prim.Native.Nat.{ℕ, zero, suc, _+_, _-_, _≤_, _<_, min}
-use mathlib.Core.Path.{_≡_, refl, ap, subst⁻¹, _∙_}
+-- The log judged block after block: what the turns over a chunk carry.
+use Prim.Native.Nat.{ℕ, _+_, _-_, _≤_, _<_}
+use mathlib.Core.Path.{_≡_, ap, _∙_}
 use mathlib.Core.List.{List}
-use mathlib.Core.Bool.{Bool, true, false, not}
+use mathlib.Core.Bool.{Bool, false, not}
 use native.Mathlib.Omega.{arith}
-use lib.ListN.{length, take, drop, length-take}
+use lib.ListN.{length, take, length-take}
 use lib.Seq.{length-sets}
-use lib.Dec.{T, ltb}
 use borrow.Author.Tests.{not-false}
-use Rattle.text.specs.Parts.{partsFrom, firstAt}
 use Rattle.text.specs.Put.{Put}
-use Rattle.text.proofs.Picks.{cases, order}
+use Rattle.text.proofs.Picks.{order}
 use Rattle.text.proofs.Puts.{put-fits, put-short}
 use Rattle.model.specs.Tables.{Table}
-use Rattle.log.specs.Lines.{longestLine}
-use Rattle.table.specs.Texts.{longest}
 use Rattle.engine.specs.Tallies.{Roomy}
-use Rattle.engine.specs.Play.{isClosed, Ready}
+use Rattle.engine.specs.Play.{Ready}
 use Rattle.engine.specs.declared.Tally.{Tally}
 use Rattle.engine.specs.declared.Cycle.{Cycle}
 use Rattle.engine.specs.declared.Stop.the-variants.{Closed}
 use Rattle.engine.specs.declared.Going.{Going}
-use Rattle.judging.specs.Cut.{isEnd, endIn, cutOf, linesEnd, wholeLines}
 use Rattle.judging.specs.Telling.{Tells}
 use Rattle.judging.specs.declared.Told.{Told}
-use Rattle.judging.proofs.Cuts.{end-start, end-none, end-last, end-here, end-more, end-less, lines-within}
-use Rattle.judging.proofs.Reporting.{put-length}
-
--- the table ends within the input
-module _ (s : List ℕ) (most limit : ℕ) (m : most ≤ limit) (k : length s ≤ limit) where
-  -- here, or further on
-  line-within : (at e : ℕ) → at ≤ length s → e ≡ firstAt s at 10 → e < length s → endIn (e + 1) (partsFrom 10 s (e + 1)) most ≤ limit → endIn at (partsFrom 10 s at) most ≤ limit
-  line-within at e h f i rest =
-      cases (isEnd (take (e - at) (drop at s)))
-      (λ y. omega (arith, end-here s at most _ h refl e f i _ refl y))
-      (λ y. omega (arith, end-more s at most _ h refl e f i _ refl y))
-
-  -- in so many turns at most
-  table-within : (n at : ℕ) → at ≤ length s → length s - at ≤ n → endIn at (partsFrom 10 s at) most ≤ limit
-  table-within zero at h l = omega (arith, end-none s at most _ h refl (omega arith))
-  table-within (suc n) at h l =
-      order (firstAt s at 10) (length s)
-      (λ i. line-within at _ h refl i (table-within n (firstAt s at 10 + 1) (omega arith) (omega (arith, end-less s at most _ h refl _ refl i))))
-      (λ i. omega (arith, end-last s at most _ h refl _ refl i))
-
-pub cut-within : (s : List ℕ) (r : ℕ) → r ≡ cutOf s → r ≤ length s
-unfolding cutOf
-cut-within s r e =
-    let k = length-take longest s in
-    let w = table-within (take longest s) (min (length s) (longest + 1)) (length s) (omega arith) (omega arith) (length (take longest s)) 0 (omega arith) (omega arith) in
-    omega (arith, e, end-start (take longest s) (min (length s) (longest + 1)))
-
--- whole lines end within what was read
-pub whole-within : (s : List ℕ) (r : ℕ) → r ≡ wholeLines s → r ≤ length s
-unfolding wholeLines
-whole-within s r e =
-    rw e (cases (ltb (length s - linesEnd s) longestLine) (λ y. rw y (lines-within s (linesEnd s) refl)) (λ y. rw y (omega arith)))
+use Rattle.judging.proofs.Counts.{Grows}
+use Rattle.judging.proofs.Reporting.{put-length, is-closed}
 
 -- what lies within the first bytes lies within all
 pub first-within : (n k : ℕ) (s : List ℕ) → n ≤ length (take k s) → n ≤ length s
 first-within n k s h = omega (arith, length-take k s)
 
 -- the counts can grow where the test found so
-pub may-judge : {c : Tally} {n : ℕ} (may : Bool) → (may ≡ true → Roomy c n) × (Roomy c n → may ≡ true) → not may ≡ false → Roomy c n
+pub may-judge : {c : Tally} {n : ℕ} (may : Bool) → Grows may c n → not may ≡ false → Roomy c n
 may-judge may h y = h .0 (not-false may y)
 
 -- room for more is room for less
@@ -105,7 +70,7 @@ module _ {K : Table} {log : List ℕ} {from : ℕ} {g : Going} {buf : List ℕ} 
   module _ {k : Cycle} (c : r .stop ≡ Closed k) where
     -- less of the log is left behind a kept cycle
     pub tells-less : length log - r .at < length log - from
-    tells-less = let h : T (isClosed (r .stop)) = subst⁻¹ (λ w. T (isClosed w)) c tt in omega (arith, t .within, t .onward h)
+    tells-less = omega (arith, t .within, t .onward (is-closed c))
 
     -- its row is the first of the next turn
     pub judges-more : {text out : List ℕ} {n : ℕ} → length buf ≡ 65536 → Put after 0 text n out → Judges K log out (r .going) (r .at) n

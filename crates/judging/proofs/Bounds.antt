@@ -4,17 +4,15 @@ use mathlib.Core.Bool.{Bool, true, false, cond}
 use mathlib.Core.List.{List, [], _∷_}
 use mathlib.Core.Path.{_≡_, refl, sym, ap, _∙_}
 use native.Mathlib.Omega.{arith}
-use lib.Dec.{T, leb, leb→le, ltb, eqb, eqb→eq}
+use lib.Dec.{T, leb, leb→le, eqb, eqb→eq}
 use lib.ListN.{length, getD, length-append}
-use Rattle.text.specs.Parts.{pick, splitOn, joinOn}
+use Rattle.text.specs.Parts.{splitOn, joinOn}
 use Rattle.text.specs.Number.{digits}
 use Rattle.text.specs.Set.{setDigits}
 use Rattle.text.specs.Words.{wordIn, wordAt}
-use Rattle.text.specs.declared.Number.{Number}
 use Rattle.text.specs.declared.Number.the-variants as number
-use Rattle.text.specs.declared.Word.{Word}
 use Rattle.text.specs.declared.Word.the-variants as word
-use Rattle.text.proofs.Picks.{cases, passed}
+use Rattle.text.proofs.Picks.{cases}
 use Rattle.text.proofs.Parts.{join-split}
 use Rattle.text.proofs.Words.{word-read}
 use Rattle.text.proofs.Numbers.{digits-read, length-digits, width-within, width-bound}
@@ -26,7 +24,7 @@ use Rattle.model.specs.Rows.{wellformed}
 use Rattle.model.specs.States.{fresh}
 use Rattle.model.specs.Rules.{refusal, next}
 use Rattle.model.specs.Logs.{allAccepted}
-use Rattle.model.specs.Cycles.{KeptRow, SumRow, Verdict, none, kept, dropped, keptRow, keeps, verdict, isFm, isVerdict, opens, openedIn, keptIn, drops, droppedIn, managing, stepsOf, stopOn, reportOn, report}
+use Rattle.model.specs.Cycles.{KeptRow, SumRow, Verdict, none, kept, dropped, keptRow, keeps, verdict, isFm, isVerdict, opens, openedIn, keptIn, drops, droppedIn, stepsOf, stopOn, reportOn, report}
 use Rattle.model.specs.declared.State.{State}
 use Rattle.model.specs.declared.Step.{Step}
 use Rattle.model.specs.declared.Step.the-variants.{Wait, St, Sm, Lm, Ia, Ea, Cx, Fa, Fm}
@@ -40,13 +38,15 @@ use Rattle.model.proofs.StepsKeep.{step-keeps}
 use Rattle.model.proofs.Verdicts.{verdict-at-fm}
 use Rattle.model.proofs.Balance.{balance}
 use Rattle.model.proofs.Reports.{steps-accepted}
-use Rattle.log.specs.Lines.{mostDigits, longestLine, stepWords, aNumber, aSet, aPlace, given, only, headed, oneNumber, twoNumbers, managerLine, leavingLine, oneOf, twoOf, placeOf, onWord, stepIn, readStep}
+use Rattle.log.specs.Lines.{mostDigits, stepWords, aNumber, aSet, readStep}
 use Rattle.log.proofs.Words.{nine, nine-words}
+use Rattle.log.proofs.Shapes.{either, Shapes, shaped}
 use Rattle.engine.specs.Tallies.{keepsOne}
-use Rattle.judging.specs.Rows.{numbersText, lineText, layout, headText, keptText, rowsText, sumText}
+use Rattle.judging.specs.Rows.{numbersText, lineText, sumWord, keptText, rowsText, sumNumbers, sumText}
 use Rattle.judging.specs.Report.{linesIn, logText}
 use Rattle.judging.specs.Telling.{surely}
-use Rattle.judging.proofs.Tales.{kept-more, rowOf, rows-more}
+use Rattle.judging.proofs.Accounts.{kept-more, rowOf, rows-more}
+use Rattle.judging.proofs.Lines.{line-length, numbers-most, head-length}
 
 -- a row's numbers are small enough for 75 bytes
 record Small (r : KeptRow) : Type 0 where
@@ -57,10 +57,7 @@ record Small (r : KeptRow) : Type 0 where
   missed : r .missed ≤ ceiling
   longest : r .longest ≤ mostTicks
 
--- no number takes more than 20 bytes, and one below a power of ten no more than that power
-length-any : (n : ℕ) → length (digits n) ≤ 20
-length-any n = omega (arith, length-digits n, width-within n .1)
-
+-- a number below a power of ten takes no more bytes than that power
 length-below : (n w : ℕ) → n < 10 ^ w → 1 ≤ w → length (digits n) ≤ w
 length-below n w h l = omega (arith, length-digits n, width-bound n w h l)
 
@@ -76,14 +73,7 @@ row-length r h =
     simp length-append (omega arith)
 
 sum-length : (r : SumRow) → length (sumText r) ≤ 193
-unfolding lineText numbersText
-sum-length r =
-    simp length-append
-    (omega (arith, length-any (r .steps), length-any (r .date), length-any (r .opened), length-any (r .kept), length-any (r .dropped), length-any (r .managing), length-any (r .most), length-any (r .refusal), length-any (r .line)))
-
-head-length : length headText ≤ 9
-unfolding lineText numbersText
-head-length = simp length-append (omega (arith, length-below layout 1 (omega arith) (omega arith)))
+sum-length r = omega (arith, line-length sumWord (sumNumbers r), numbers-most (sumNumbers r))
 
 -- in a sound state the cycle of a task has such numbers
 cycle-small : (K : Table) → Formed K → (s : State) → Sound K s → (t : ℕ) → t < K .ntasks → Small (keptRow s t)
@@ -122,26 +112,7 @@ rows-length K F (x ∷ xs) s S ok =
     let rs = keptIn K (next K s x) xs in
     rw (rows-more v rs) (omega (arith, length-append (rowOf v) (rowsText rs), step-row K F s S x acc, kept-more v 0 rs, rows-length K F xs (next K s x) (step-keeps K F s S x acc) (now .1)))
 
--- a line that says a step has a field of good form wherever one is asked for, and no field more
-no-step : {x : Step} → Bad ≡ Is x → ⊥
-no-step e = let z : _≡_ {A = ℕ} 0 1 = cc in omega arith
-
-on-given : {P : Type 0} (n : Number) (go : ℕ → Line) (x : Step) → given n go ≡ Is x → ((v : ℕ) → n ≡ number.Is v → go v ≡ Is x → P) → P
-on-given (number.Is v) go x u f = f v refl u
-on-given number.Bad go x u f = absurd (no-step u)
-
-on-head : {P : Type 0} (form : List ℕ → Number) (ps : List (List ℕ)) (go : ℕ → List (List ℕ) → Line) (x : Step) → headed form ps go ≡ Is x
-    → ((p : List ℕ) (v : ℕ) (qs : List (List ℕ)) → ps ≡ p ∷ qs → form p ≡ number.Is v → go v qs ≡ Is x → P) → P
-on-head form [] go x u f = absurd (no-step u)
-on-head form (p ∷ ps) go x u f = on-given (form p) (λ v. go v ps) x u (λ v e w. f p v ps refl e w)
-
-on-only : {P : Type 0} (form : List ℕ → Number) (ps : List (List ℕ)) (go : ℕ → Line) (x : Step) → given (only form ps) go ≡ Is x
-    → ((p : List ℕ) (v : ℕ) → ps ≡ p ∷ [] → form p ≡ number.Is v → go v ≡ Is x → P) → P
-on-only form [] go x u f = absurd (no-step u)
-on-only form (p ∷ []) go x u f = on-given (form p) go x u (λ v e w. f p v refl e w)
-on-only form (p ∷ q ∷ ps) go x u f = absurd (no-step u)
-
--- how long its fields and its word are
+-- how long the fields and the word of a step's line are
 number-length : (p : List ℕ) (v : ℕ) → aNumber p ≡ number.Is v → 1 ≤ length p
 number-length p v u = omega (arith, ap length (digits-read mostDigits p v u .0), length-digits v, width-within v .0)
 
@@ -160,75 +131,27 @@ word-length w k u =
 abbrev cost : Step → ℕ
 cost x = 39 * opens x + 5 * one (isFm x)
 
-module _ (w : List ℕ) (h : 2 ≤ length w) (x : Step) where
-  said : {y : Step} {n : ℕ} → Is y ≡ Is x → cost y ≤ n → cost x ≤ n
-  said {y} e l = let q : y ≡ x = cc in rw (← q) l
-
-  either : (b : Bool) (y z : Step) (n : ℕ) → cost y ≤ n → cost z ≤ n → cost (pick b y z) ≤ n
-  either true y z n k l = k
-  either false y z n k l = l
-
-  on-pick : (b : Bool) (l m : Line) {n : ℕ} → pick b l m ≡ Is x → (l ≡ Is x → cost x ≤ n) → (m ≡ Is x → cost x ≤ n) → cost x ≤ n
-  on-pick true l m u f g = f u
-  on-pick false l m u f g = g u
-
-  -- a word and its fields, with a tab before each, and the newline
-  manager-cost : (ps : List (List ℕ)) → managerLine ps ≡ Is x → cost x ≤ length (joinOn 9 (w ∷ ps)) + 1
-  manager-cost ps u =
-      on-head aNumber ps (λ t qs. headed aSet qs λ n rs. given (only aSet rs) (λ r. Is (Sm t n r))) x u λ p t qs a e v.
-      on-head aSet qs (λ n rs. given (only aSet rs) (λ r. Is (Sm t n r))) x v λ q n rs b f m.
-      on-only aSet rs (λ r. Is (Sm t n r)) x m λ s r c g z.
-      let d : ps ≡ p ∷ q ∷ s ∷ [] = a ∙ ap (λ l. p ∷ l) (b ∙ ap (λ l. q ∷ l) c) in
-      let i = number-length p t e in
-      let j = set-length q n f in
-      let k = set-length s r g in
-      said z (rw d (simp length-append (omega arith)))
-
-  one-cost : (ps : List (List ℕ)) (k : ℕ) → oneNumber ps (oneOf k) ≡ Is x → cost x ≤ length (joinOn 9 (w ∷ ps)) + 1
-  one-cost ps k u =
-      on-only aNumber ps (λ a. Is (oneOf k a)) x u λ p a e f z.
-      let i = number-length p a f in
+-- a word and its fields, with a tab before each, and the newline
+costs : Shapes (λ s x. cost x ≤ length s + 1)
+costs = record {
+  one = λ w p k a i e.
       let n = length (joinOn 9 (w ∷ p ∷ [])) + 1 in
+      let h = word-length w k i in
+      let l = number-length p a e in
       let five : 5 ≤ n = simp length-append (omega arith) in
-      said z
-      (rw e
-      (either (eqb k 0) _ _ n (omega arith)
-      (either (eqb k 1) _ _ n (omega arith)
-      (either (eqb k 4) _ _ n (omega arith)
-      (either (eqb k 6) _ _ n (omega arith) five)))))
-
-  two-cost : (ps : List (List ℕ)) (k n : ℕ) → twoNumbers ps (twoOf k) ≡ Is x → cost x ≤ n
-  two-cost ps k n u =
-      on-head aNumber ps (λ a qs. oneNumber qs (twoOf k a)) x u λ p a qs e f v.
-      on-only aNumber qs (λ b. Is (twoOf k a b)) x v λ q b g i z.
-      said z (either (eqb k 3) _ _ n (omega arith) (omega arith))
-
-  leaving-cost : (ps : List (List ℕ)) (n : ℕ) → leavingLine ps ≡ Is x → cost x ≤ n
-  leaving-cost ps n u =
-      on-head aNumber ps (λ a qs. given (only aPlace qs) (λ c. Is (Fa a (placeOf c)))) x u λ p a qs e f v.
-      on-only aPlace qs (λ c. Is (Fa a (placeOf c))) x v λ q c g i z.
-      said z (omega arith)
-
-  word-cost : (k : ℕ) (ps : List (List ℕ)) → onWord (word.Is k) ps ≡ Is x → cost x ≤ length (joinOn 9 (w ∷ ps)) + 1
-  word-cost k ps u =
-      on-pick (eqb k 2) _ _ u (manager-cost ps) λ u.
-      on-pick (eqb k 3) _ _ u (two-cost ps k _) λ u.
-      on-pick (eqb k 5) _ _ u (two-cost ps k _) λ u.
-      on-pick (eqb k 7) _ _ u (leaving-cost ps _) (one-cost ps k)
-
-parts-cost : (ps : List (List ℕ)) (x : Step) → stepIn ps ≡ Is x → cost x ≤ length (joinOn 9 ps) + 1
-parts-cost [] x u = absurd (no-step u)
-parts-cost (w ∷ ps) x u = go (wordIn stepWords w) refl u
-  where
-    go : (r : Word) → wordIn stepWords w ≡ r → onWord r ps ≡ Is x → cost x ≤ length (joinOn 9 (w ∷ ps)) + 1
-    go word.Unknown e u = absurd (no-step u)
-    go (word.Is k) e u = word-cost w (word-length w k e) x k ps u
-
-line-cost : (p : List ℕ) (x : Step) → readStep p ≡ Is x → cost x ≤ length p + 1
-unfolding readStep
-line-cost p x u =
-    let t = passed (ltb longestLine (length p + 1)) no-step u in
-    rw join-split at (parts-cost (splitOn 9 p) x (t .1))
+      either (λ x. cost x ≤ n) (eqb k 0) _ _ (omega arith)
+      (either (λ x. cost x ≤ n) (eqb k 1) _ _ (omega arith)
+      (either (λ x. cost x ≤ n) (eqb k 4) _ _ (omega arith)
+      (either (λ x. cost x ≤ n) (eqb k 6) _ _ (omega arith) five)));
+  two = λ w p q k a b i e f. either (λ x. cost x ≤ length (joinOn 9 (w ∷ p ∷ q ∷ [])) + 1) (eqb k 3) _ _ (omega arith) (omega arith);
+  manager = λ w p q s k t n r i e f g.
+      let h = word-length w k i in
+      let l = number-length p t e in
+      let m = set-length q n f in
+      let o = set-length s r g in
+      simp length-append (omega arith);
+  leaving = λ w p q k a c i e f. omega arith;
+}
 
 -- what a verdict closes
 closes-one : (v : Verdict) → keepsOne v + drops v ≡ one (isVerdict v)
@@ -257,7 +180,7 @@ steps-cost K (p ∷ q ∷ ps) s = rw length-append (go (readStep p) refl (λ w. 
     go Bad e f = omega arith
     go (Is x) e f =
         cases (accepted (refusal K s x))
-        (λ a. rw a (more x (stepsOf K (next K s x) (linesIn (q ∷ ps))) (line-cost p x e) (f (next K s x))))
+        (λ a. rw a (more x (stepsOf K (next K s x) (linesIn (q ∷ ps))) (shaped costs x p e) (f (next K s x))))
         (λ a. rw a (omega arith))
 
 module _ (K : Table) (wf : T (wellformed K)) (log : List ℕ) where

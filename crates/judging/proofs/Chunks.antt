@@ -1,7 +1,7 @@
 -- A log told chunk by chunk: what was told of a chunk stands, whatever bytes follow it.
 use Prim.Native.Nat.{ℕ}
 use mathlib.Core.List.{List, [], _∷_, _++_, append-assoc, append-nil}
-use mathlib.Core.Path.{_≡_, refl, sym, ap, subst, _∙_}
+use mathlib.Core.Path.{_≡_, refl, sym, ap, _∙_}
 use native.Mathlib.Omega.{arith}
 use lib.Dec.{eqb}
 use lib.ListN.{length, take, drop, length-append, length-drop, take-append-drop}
@@ -10,9 +10,7 @@ use Rattle.text.specs.Parts.{splitOn, onHead, joinOn}
 use Rattle.text.proofs.Picks.{cases}
 use Rattle.text.proofs.Parts.{join-split}
 use Rattle.model.specs.Tables.{Table}
-use Rattle.model.specs.declared.State.{State}
-use Rattle.engine.specs.Play.{stopped, played, pieces, Runs}
-use Rattle.engine.specs.declared.Tally.{Tally}
+use Rattle.engine.specs.Play.{pieces, Runs}
 use Rattle.engine.specs.declared.Cycle.{Cycle}
 use Rattle.engine.specs.declared.Stop.{Stop}
 use Rattle.engine.specs.declared.Stop.the-variants.{End, Refused, Closed}
@@ -20,7 +18,7 @@ use Rattle.engine.specs.declared.Going.{Going}
 use Rattle.engine.specs.declared.Ran.{Ran}
 use Rattle.judging.specs.Rows.{cycleText, sumText}
 use Rattle.judging.specs.Telling.{sumOf, tell, pending, lastPart, Whole, Carries}
-use Rattle.judging.proofs.Tales.{followed, Tale, tale, split-some, run-tale}
+use Rattle.judging.proofs.Accounts.{followed, split-some, run-account}
 
 -- a text behind another goes on with its last piece
 pub split-append : (a b : List ℕ) → splitOn 10 (a ++ b) ≡ followed (splitOn 10 a) (splitOn 10 b)
@@ -67,34 +65,11 @@ whole-line a = rw (split-append a (10 ∷ [])) (go (splitOn 10 a))
     go (p ∷ q ∷ []) = refl
     go (p ∷ q ∷ r ∷ ps) = go (q ∷ r ∷ ps)
 
--- what a play of a chunk says of the chunk with more behind it
-module _ (K : Table) (s : State) (c : Tally) (a b : List ℕ) {w : State} {d : Tally} {rest : List (List ℕ)} where
-  chunk-tale : {v : Stop} → played K s c (splitOn 10 a) ≡ stopped w d v rest → Tale K s c (splitOn 10 a) (stopped w d v rest)
-  chunk-tale e = subst (Tale K s c (splitOn 10 a)) e (tale K (splitOn 10 a) s c)
-
-  chunk-on : {v : Stop} → played K s c (splitOn 10 a) ≡ stopped w d v rest → tell K s c (splitOn 10 (a ++ b)) ≡ pending v ++ tell K w d (followed rest (splitOn 10 b))
-  chunk-on e = ap (tell K s c) (split-append a b) ∙ chunk-tale e .on (splitOn 10 b)
-
-  -- it went through: the rest is told from there
-  pub chunk-end : played K s c (splitOn 10 a) ≡ stopped w d End rest → tell K s c (splitOn 10 (a ++ b)) ≡ tell K w d (splitOn 10 b)
-  chunk-end e =
-      let f = split-some b in
-      chunk-on e ∙ ap (tell K w d) (rw (f .2) (chunk-tale e .done refl (f .0) (f .1)))
-
-  -- it stopped at a kept cycle: its row, and what is left of the chunk with the rest behind it
-  pub chunk-closed : {k : Cycle} → played K s c (splitOn 10 a) ≡ stopped w d (Closed k) rest
-      → tell K s c (splitOn 10 (a ++ b)) ≡ cycleText k ++ tell K w d (followed rest (splitOn 10 b))
-  chunk-closed e = chunk-on e
-
-  -- it was refused: the `sum` row, whatever follows
-  pub chunk-refused : {n : ℕ} → Whole a → played K s c (splitOn 10 a) ≡ stopped w d (Refused n) rest → tell K s c (splitOn 10 (a ++ b)) ≡ sumText (sumOf K w d n)
-  chunk-refused {n} h e = chunk-on e ∙ chunk-tale e .stays h n refl (splitOn 10 b)
-
 module _ (K : Table) (log : List ℕ) where
   -- one run
   pub carries-run : {from : ℕ} {g : Going} {r : Ran} → Runs K log from g r → Carries K log from g [] (r .going) (r .at) (r .stop)
   carries-run {from} {g} {r} h =
-      let t = run-tale K h in
+      let t = run-account K h in
       record {
         on = λ b. ap (tell K (g .state) (g .tally)) (split-append (drop from log) b) ∙ t .on (splitOn 10 b) ∙ ap (λ l. pending (r .stop) ++ tell K (r .going .state) (r .going .tally) l) (sym (split-append (drop (r .at) log) b));
         ends = t .ends;
@@ -104,7 +79,7 @@ module _ (K : Table) (log : List ℕ) where
     where
       passed : r .stop ≡ End → r .at ≡ length log
       passed e =
-          let l : drop (r .at) log ++ [] ≡ [] = sym (join-split 10 (drop (r .at) log ++ [])) ∙ ap (joinOn 10) (split-append (drop (r .at) log) [] ∙ run-tale K h .done e [] []) in
+          let l : drop (r .at) log ++ [] ≡ [] = sym (join-split 10 (drop (r .at) log ++ [])) ∙ ap (joinOn 10) (split-append (drop (r .at) log) [] ∙ run-account K h .done e [] []) in
           omega (arith, h .within, length-drop (r .at) log, rw length-append at (ap length l))
 
   -- a run more, from the place and the cycle that the last stopped at

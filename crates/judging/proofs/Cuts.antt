@@ -1,15 +1,15 @@
 -- Where the table ends in the input, and where the whole lines of a part of a log end: one law for each turn and each answer.
-use Prim.Native.Nat.{ℕ, suc, _+_, _-_, _≤_, _<_, min}
-use mathlib.Core.Path.{_≡_, refl, sym}
+use Prim.Native.Nat.{ℕ, zero, suc, _+_, _-_, _≤_, _<_, min}
+use mathlib.Core.Path.{_≡_, refl}
 use mathlib.Core.List.{List, [], _∷_, _++_}
 use mathlib.Core.Bool.{Bool, true, false}
 use native.Mathlib.Omega.{arith}
 use lib.ListN.{length, getD, drop, take, drop-of-length-le, length-take}
-use lib.Seq.{take-suc, take-all, take-length, length-take-le}
+use lib.Seq.{take-suc, take-all, take-length}
 use lib.Dec.{eqb, ltb}
 use borrow.Author.Tests.{lt-ltb, le-ltb, ne-eqb}
 use Rattle.text.specs.Parts.{pick, splitOn, partsFrom, firstAt}
-use Rattle.text.proofs.Picks.{cases}
+use Rattle.text.proofs.Picks.{cases, order}
 use Rattle.text.proofs.Parts.{parts-cut, parts-none, parts-all, cut-length}
 use Rattle.text.proofs.Turns.{same-short, part-starts}
 use Rattle.log.specs.Lines.{longestLine}
@@ -19,10 +19,6 @@ use Rattle.judging.specs.Cut.{endMark, isEnd, endIn, cutOf, linesEnd, wh
 -- fewer than four bytes are no mark
 pub end-short : (p : List ℕ) → length p < 4 → false ≡ isEnd p
 end-short p h = same-short (take 4 p) endMark (λ e. omega (arith, length-take 4 p))
-
--- the first bytes of a text that has as many
-pub first-bytes : (k : ℕ) (p : List ℕ) → k ≤ length p → k ≡ length (take k p)
-first-bytes k p h = sym (length-take-le k p h)
 
 -- looking from the start of the text
 pub end-start : (s : List ℕ) (most : ℕ) → endIn 0 (partsFrom 10 s 0) most ≡ endIn 0 (splitOn 10 s) most
@@ -65,9 +61,6 @@ module _ (s : List ℕ) (at most r : ℕ) (h : at ≤ length s) (now : endIn at 
       end-more n = rw (← q, n) at choice
 
 -- the table is looked for in the first bytes
-pub cut-bytes : (s : List ℕ) → longest < length s → longest ≡ length (take longest s)
-cut-bytes s h = first-bytes longest s (omega arith)
-
 module _ (s : List ℕ) (r : ℕ) where
   pub cut-short : length s ≤ longest → r ≡ endIn 0 (splitOn 10 s) (length s) → r ≡ cutOf s
   unfolding cutOf
@@ -76,6 +69,30 @@ module _ (s : List ℕ) (r : ℕ) where
   pub cut-long : longest < length s → r ≡ endIn 0 (splitOn 10 (take longest s)) (longest + 1) → r ≡ cutOf s
   unfolding cutOf
   cut-long h e = let m : min (length s) (longest + 1) ≡ longest + 1 = omega arith in rw m e
+
+-- the table ends within the input
+module _ (s : List ℕ) (most limit : ℕ) (m : most ≤ limit) (k : length s ≤ limit) where
+  -- here, or further on
+  line-within : (at e : ℕ) → at ≤ length s → e ≡ firstAt s at 10 → e < length s → endIn (e + 1) (partsFrom 10 s (e + 1)) most ≤ limit → endIn at (partsFrom 10 s at) most ≤ limit
+  line-within at e h f i rest =
+      cases (isEnd (take (e - at) (drop at s)))
+      (λ y. omega (arith, end-here s at most _ h refl e f i _ refl y))
+      (λ y. omega (arith, end-more s at most _ h refl e f i _ refl y))
+
+  -- in so many turns at most
+  table-within : (n at : ℕ) → at ≤ length s → length s - at ≤ n → endIn at (partsFrom 10 s at) most ≤ limit
+  table-within zero at h l = omega (arith, end-none s at most _ h refl (omega arith))
+  table-within (suc n) at h l =
+      order (firstAt s at 10) (length s)
+      (λ i. line-within at _ h refl i (table-within n (firstAt s at 10 + 1) (omega arith) (omega (arith, end-less s at most _ h refl _ refl i))))
+      (λ i. omega (arith, end-last s at most _ h refl _ refl i))
+
+pub cut-within : (s : List ℕ) (r : ℕ) → r ≡ cutOf s → r ≤ length s
+unfolding cutOf
+cut-within s r e =
+    let k = length-take longest s in
+    let w = table-within (take longest s) (min (length s) (longest + 1)) (length s) (omega arith) (omega arith) (length (take longest s)) 0 (omega arith) (omega arith) in
+    omega (arith, e, end-start (take longest s) (min (length s) (longest + 1)))
 
 -- the last byte of a text is a newline, or another
 lines-newline : (p : List ℕ) → linesEnd (p ++ 10 ∷ []) ≡ suc (length p)
@@ -139,3 +156,9 @@ module _ (s : List ℕ) (end : ℕ) (e : end ≡ linesEnd s) where
   pub whole-long : longestLine ≤ length s - end → length s ≡ wholeLines s
   unfolding wholeLines
   whole-long h = let k : longestLine ≤ length s - linesEnd s = rw e at h in rw (le-ltb _ _ k)
+
+-- whole lines end within what was read
+pub whole-within : (s : List ℕ) (r : ℕ) → r ≡ wholeLines s → r ≤ length s
+unfolding wholeLines
+whole-within s r e =
+    rw e (cases (ltb (length s - linesEnd s) longestLine) (λ y. rw y (lines-within s (linesEnd s) refl)) (λ y. rw y (omega arith)))

@@ -1,3 +1,4 @@
+pub mod Accounts
 pub mod Tales
 pub mod Bounds
 pub mod Mission
@@ -6,3 +7,4 @@ pub mod Counts
 pub mod Lines
 pub mod Cuts
 pub mod Reporting
+pub mod Unique

@@ -14,7 +14,7 @@ use Rattle.text.specs.Put.{Put}
 use Rattle.text.proofs.Numbers.{length-digits, width-within}
 use Rattle.text.proofs.Turns.{put-none, put-room}
 use Rattle.text.proofs.Puts.{put-fits, sets-append}
-use Rattle.judging.specs.Rows.{numbersText, lineText}
+use Rattle.judging.specs.Rows.{numbersText, lineText, headText}
 
 -- the numbers of a line from one on
 module _ (ns : List ℕ) (i : ℕ) where
@@ -36,6 +36,11 @@ numbers-some (n ∷ ns) = omega arith
 pub line-length : (word ns : List ℕ) → length (lineText word ns) ≡ length word + length (numbersText ns)
 unfolding lineText
 line-length word ns = length-append word (numbersText ns)
+
+-- the header's width
+pub head-length : length headText ≡ 9
+unfolding lineText numbersText digits widthOf
+head-length = refl
 
 -- twenty digits a number at most
 pub numbers-most : (ns : List ℕ) → length (numbersText ns) ≤ 1 + 21 * length ns

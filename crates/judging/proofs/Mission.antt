@@ -1,8 +1,8 @@
 -- What the report on an accepted table's text and any log says, in the words of document 01, over the bytes of both.
-use Prim.Native.Nat.{ℕ, zero, suc, _+_, _*_, _/_, _≤_}
+use Prim.Native.Nat.{ℕ, _+_, _*_, _/_, _≤_}
 use mathlib.Core.List.{List, [], _∷_, _++_}
 use mathlib.Core.Logic.{⊎-elim}
-use mathlib.Core.Path.{_≡_, refl, ap, subst, _∙_}
+use mathlib.Core.Path.{_≡_, refl, sym, ap, subst, _∙_}
 use native.Mathlib.Omega.{arith}
 use lib.Dec.{T}
 use lib.ListN.{length}
@@ -14,7 +14,7 @@ use Rattle.model.specs.States.{fresh}
 use Rattle.model.specs.Rules.{refusal, next}
 use Rattle.model.specs.Sound.{sound}
 use Rattle.model.specs.Logs.{allAccepted, reached, most}
-use Rattle.model.specs.Cycles.{Verdict, none, kept, dropped, KeptRow, Report, verdict, isFm, isVerdict, withKept, keptIn, stepsOf, stopOn, lineOf, report}
+use Rattle.model.specs.Cycles.{Verdict, none, kept, dropped, KeptRow, Report, verdict, isFm, isVerdict, withKept, keptIn, stepsOf, stopOn, report}
 use Rattle.model.specs.declared.State.{State}
 use Rattle.model.specs.declared.Step.{Step}
 use Rattle.model.specs.declared.Line.{Line}
@@ -31,6 +31,7 @@ use Rattle.engine.specs.Tallies.{noTally}
 use Rattle.judging.specs.Report.{linesIn, reportText, logText, reportOn}
 use Rattle.judging.specs.Telling.{sumAfter}
 use Rattle.judging.proofs.Bounds.{text-bound}
+use Rattle.judging.proofs.Counts.{line-some}
 
 -- the rows of steps in two parts and a step between: the row of the step's verdict stands where the step does
 kept-parts : (K : Table) (ys : List Step) (s : State) (x : Step) (zs : List Step)
@@ -114,11 +115,7 @@ module _ (K : Table) (s : State) (ls : List Line) where
 
   line-refused : (report K s ls .sum .refusal ≡ 0 → ⊥) → StoppedAt K s ls × (report K s ls .sum .line ≡ length (stepsOf K s ls) + 1)
   unfolding report
-  line-refused h = (⊎-elim (λ t. absurd (h (t .number))) (λ t. t) (stop-exact K s ls), counted (stopOn K s ls) h)
-    where
-      counted : (n : ℕ) → (n ≡ 0 → ⊥) → lineOf n (length (stepsOf K s ls)) ≡ length (stepsOf K s ls) + 1
-      counted zero h = absurd (h refl)
-      counted (suc n) h = refl
+  line-refused h = (⊎-elim (λ t. absurd (h (t .number))) (λ t. t) (stop-exact K s ls), sym (line-some (stopOn K s ls) (length (stepsOf K s ls)) h))
 
 -- the report on a table that is read and any log
 pub mission : (table log : List ℕ) → readTable table .answer ≡ Fine → Mission table log

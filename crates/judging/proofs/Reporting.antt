@@ -11,7 +11,6 @@ use lib.Dec.{T, leb}
 use denote.Enum.Declared
 use types.Run.{OneOf}
 use borrow.Author.Tests.{le-leb, lt-leb, leb-true, leb-false, not-true, not-false}
-use Rattle.text.specs.Number.{widthOf, digits}
 use Rattle.text.specs.Put.{Put}
 use Rattle.text.proofs.Picks.{order, false-true}
 use Rattle.text.proofs.Puts.{put-fits, put-short, laid-length, sets-append}
@@ -41,12 +40,13 @@ use Rattle.engine.proofs.Stop as kinds
 use Rattle.engine.proofs.Starting.{fresh-ready, roomy}
 use Rattle.judging.specs.Rows.{numbersText, lineText, keptWord, sumWord, headText, cycleNumbers, cycleText, rowsText, sumNumbers, sumText}
 use Rattle.judging.specs.Report.{reportText, logText, reportOn}
-use Rattle.judging.specs.Telling.{sumOf, tell, refusalOf, pending, Carries, Tells, surely}
+use Rattle.judging.specs.Telling.{sumOf, tell, refusalOf, pending, Carries, behind, tale, Tells, surely}
 use Rattle.judging.specs.declared.Told.{Told}
-use Rattle.judging.proofs.Tales.{run-tells, run-ends, log-text}
+use Rattle.judging.proofs.Accounts.{run-tells, run-ends, log-text}
+use Rattle.judging.proofs.Tales.{tale-halts, tale-goes, behind-none, behind-more}
 use Rattle.judging.proofs.Bounds.{surely-holds}
 use Rattle.judging.proofs.Chunks.{carries-run, carries-more, carries-told}
-use Rattle.judging.proofs.Lines.{line-length, numbers-some, numbers-most, Writing, writing-start, writing-put, writing-last}
+use Rattle.judging.proofs.Lines.{head-length, line-length, numbers-some, numbers-most, Writing, writing-start, writing-put, writing-last}
 
 -- a text that does not fit is not written
 pub put-over : (buf : List ℕ) (at : ℕ) (text : List ℕ) → length buf < at + length text → Put buf at text at buf
@@ -68,7 +68,7 @@ not-closed (Closed k) (inl e) = absurd (omega arith)
 not-closed (Closed k) (inr e) = absurd (omega arith)
 
 -- and one that stopped at a cycle did
-is-closed : {w : Stop} {k : Cycle} → w ≡ Closed k → T (isClosed w)
+pub is-closed : {w : Stop} {k : Cycle} → w ≡ Closed k → T (isClosed w)
 is-closed c = subst⁻¹ (λ w. T (isClosed w)) c tt
 
 -- no cycle waits for room where it did not
@@ -76,11 +76,6 @@ none-pending : (w : Stop) (l : List ℕ) → isClosed w ≡ false → pending w 
 none-pending End l c = refl
 none-pending (Refused n) l c = refl
 none-pending (Closed k) l c = absurd (false-true (sym c))
-
--- the header's width
-head-length : length headText ≡ 9
-unfolding lineText numbersText digits widthOf
-head-length = refl
 
 -- the report on a refused table
 module _ (n l : ℕ) (ns : List ℕ) (e : ns ≡ sumNumbers (refusedReport n l .sum)) (w : ℕ) (q : w ≡ 3 + length (numbersText ns)) where
@@ -119,9 +114,10 @@ roomy-steps h = omega (arith, h .steps)
 row-some : (k : Cycle) → 0 < length (cycleText k)
 row-some k = omega (arith, line-length keptWord (cycleNumbers k), numbers-some (cycleNumbers k))
 
--- telling along the log: the rows written so far, and what each run from here on carries further
+-- telling along the log: the rows written so far, what is told behind them with the room left, and what each run from here on carries further
 pub record Along (K : Table) (log : List ℕ) (from : ℕ) (start : Going) (buf₀ : List ℕ) (place : ℕ) (buf : List ℕ) (g : Going) (at end : ℕ) : Type 0 where
   pub text : List ℕ
+  pub told : behind text (tale K (g .state) (g .tally) (length buf₀ - end) (pieces log at)) ≡ tale K (start .state) (start .tally) (length buf₀ - place) (pieces log from)
   pub next : {r : Ran} → Runs K log at g r → Carries K log from start text (r .going) (r .at) (r .stop)
   pub fits : place + length text ≤ length buf₀
   pub filled : end ≡ place + length text
@@ -134,7 +130,7 @@ pub record Along (K : Table) (log : List ℕ) (from : ℕ) (start : Going) (buf�
 pub along-start : {K : Table} {log : List ℕ} {from : ℕ} {start : Going} {buf : List ℕ} {place : ℕ} → Ready K start → from ≤ length log → Roomy (start .tally) (length log - from)
     → place ≤ length buf → Along K log from start buf place buf start from place
 along-start {K} {log} r w m h =
-    record { text = []; next = λ u. carries-run K log u; fits = omega arith; filled = omega arith; bytes = refl; within = w; onward = omega arith; ready = r; roomy = m }
+    record { text = []; told = refl; next = λ u. carries-run K log u; fits = omega arith; filled = omega arith; bytes = refl; within = w; onward = omega arith; ready = r; roomy = m }
 
 module _ {K : Table} {log : List ℕ} {from : ℕ} {start : Going} {buf₀ : List ℕ} {place : ℕ} {buf : List ℕ} {g : Going} {at end : ℕ}
     (a : Along K log from start buf₀ place buf g at end) where
@@ -149,6 +145,9 @@ module _ {K : Table} {log : List ℕ} {from : ℕ} {start : Going} {buf₀ : Lis
           → Tells K log from start buf₀ place (record { going = r .going; at = r .at; filled = end; stop = w }) after
       halted s = record {
         text = a .text;
+        told =
+            let n = tale-halts K (length buf₀ - end) h w q (λ k c. omega (arith, s k c, a .fits, a .filled)) in
+            sym (behind-none (a .text) _) ∙ ap (behind (a .text)) (sym n) ∙ a .told;
         carries = subst (Carries K log from start (a .text) (r .going) (r .at)) q (a .next h);
         fits = a .fits;
         filled = a .filled;
@@ -184,8 +183,11 @@ module _ {K : Table} {log : List ℕ} {from : ℕ} {start : Going} {buf₀ : Lis
           let w = put-fits fit p in
           let l = length-append (a .text) (cycleText k) in
           let t : Carries K log from start (a .text) (r .going) (r .at) (Closed k) = subst (Carries K log from start (a .text) (r .going) (r .at)) c (a .next h) in
+          let m : length buf₀ - end - length (cycleText k) ≡ length buf₀ - more = omega (arith, w .0) in
+          let n = tale-goes K (length buf₀ - end) h c (omega (arith, along-kept)) in
           record {
             text = a .text ++ cycleText k;
+            told = sym (behind-more (a .text) (cycleText k) _) ∙ ap (behind (a .text)) (sym (rw m at n)) ∙ a .told;
             next = λ u. carries-more K log t u;
             fits = omega (arith, a .filled, along-kept);
             filled = omega (arith, a .filled, w .0);

@@ -1,7 +1,7 @@
 // The judge: a log judged against a table, and the report written. What the program streams and what the recorder calls is one work.
 ghost use mathlib.Core.Path.{_≡_};
 ghost use mathlib.Core.Bool.{true};
-ghost use Prim.Native.Nat.{_+_, _-_, _<_, _≤_, max};
+ghost use Prim.Native.Nat.{_+_, _-_, _<_, _≤_};
 ghost use lib.ListN.{length};
 ghost use lib.Dec.{leb};
 ghost use Rattle.text.specs.Parts.{splitOn};
@@ -143,15 +143,6 @@ fn count_managing(rows: &[u32], index: &[u32], s: State) -> u64
     n
 }
 
-fn larger(a: u64, b: u64) -> u64
-    ensures { λ r. ⌜ r ≡ max a b ⌝ }
-{
-    if a < b {
-        return b;
-    }
-    a
-}
-
 // "Lines count from the first line of table or log. .. No refusal: 0 and 0."
 fn line_of(refusal: u64, steps: u64) -> u64
     requires { ⌜ steps ≤ mostCount ⌝ }
@@ -177,7 +168,7 @@ fn sum_numbers(rows: &[u32], index: &[u32], g: Going, refusal: u64) -> [u64; 9]
     n[3] = c.kept;
     n[4] = c.dropped;
     n[5] = count_managing(rows, index, s);
-    n[6] = larger(c.most, c.since);
+    n[6] = rules::larger(c.most, c.since);
     n[7] = refusal;
     n[8] = line_of(refusal, c.steps);
     n

@@ -6,3 +6,4 @@ pub mod Pairs
 pub mod Cells
 pub mod Turns
 pub mod Whole
+pub mod Unique

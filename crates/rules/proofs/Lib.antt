@@ -3,3 +3,4 @@ pub mod Places
 pub mod Named
 pub mod Steps
 pub mod Lent
+pub mod Unique

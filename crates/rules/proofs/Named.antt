@@ -14,7 +14,8 @@ use Rattle.model.specs.declared.Step.{Step}
 use Rattle.model.specs.declared.Step.the-variants.{St, Lm, Ia, Ea, Cx, Fa}
 use Rattle.model.proofs.Tests.{and-l, and-r}
 use Rattle.model.proofs.StepsKeep.{first-at}
-use Rattle.rules.specs.Local.{local, named, taskIn}
+use Rattle.rules.specs.Local.{taskLocal, local, named, taskIn}
+use Rattle.rules.specs.declared.TaskTold.{TaskTold}
 use Rattle.rules.specs.declared.Told.{Told}
 
 -- the codel of a known place, and an activity's stop
@@ -70,6 +71,9 @@ module _ (K : Table) (x z : Step) (e : x ≡ z) where
 
   pub local-is : (b : Bool) (u : Task) (v : Act) (r : Told) → r ≡ local K z b u v → r ≡ local K x b u v
   local-is b u v r q = q ∙ ap (λ w. local K w b u v) (sym e)
+
+  pub task-local-is : (b : Bool) (u : Task) (r : TaskTold) → r ≡ taskLocal K z b u → r ≡ taskLocal K x b u
+  task-local-is b u r q = q ∙ ap (λ w. taskLocal K w b u) (sym e)
 
   pub named-is : (b : Bool) → b ≡ named K z → b ≡ named K x
   named-is b q = q ∙ ap (named K) (sym e)

@@ -1,4 +1,4 @@
--- What a step asks and does, told by the one task and the one activity that it names; the rows that it names exist.
+-- What a step asks and does, told by the records of the one task and the one activity that it names; the rows that it names exist.
 use mathlib.Core.Bool.{Bool, true, false, not}
 use Prim.Native.Nat.{ℕ}
 use lib.Dec.{eqb, leb, ltb}
@@ -14,23 +14,44 @@ use Rattle.model.specs.declared.Place.the-variants.{Ether, Codel}
 use Rattle.model.specs.declared.Holder.the-variants.{Manager, Activity}
 use Rattle.model.specs.declared.Step.{Step}
 use Rattle.model.specs.declared.Step.the-variants.{Wait, St, Sm, Lm, Ia, Ea, Cx, Fa, Fm}
+use Rattle.rules.specs.declared.TaskTold.{TaskTold}
 use Rattle.rules.specs.declared.Told.{Told}
 
--- an answer: the refusal, 0 for none, with the records as they then are
+-- an answer to a step of a task: the refusal, 0 for none, with the task's record as it then is
+abbrev pub toldTask : ℕ → Task → TaskTold
+toldTask n x = record { number = n; task = x }
+
+-- an answer to a step of an activity, with its task's record and its own
 abbrev pub told : ℕ → Task → Act → Told
 told n x y = record { number = n; task = x; act = y }
 
--- the refusal n with the records as they came, unless the test holds
-abbrev pub unless : Bool → ℕ → Task → Act → Told → Told
-unless true n x y go = go
-unless false n x y go = told n x y
+-- a refusal, unless the test holds
+abbrev pub unless : {A : Type 0} → Bool → A → A → A
+unless true refused go = go
+unless false refused go = refused
 
-abbrev pub stLocal : Table → ℕ → Task → Act → Told
-stLocal K t x y = unless (eqb (x .timer) (K .period t)) 14 x y (told 0 (signalled x) y)
+abbrev pub stLocal : Table → ℕ → Task → TaskTold
+stLocal K t x = unless (eqb (x .timer) (K .period t)) (toldTask 14 x) (toldTask 0 (signalled x))
+
+-- empty: no activity of the task is in N or R
+abbrev pub fmLocal : Bool → Task → TaskTold
+fmLocal empty x = unless ((x .managing) and byManager (x .holder) and empty) (toldTask 13 x) (toldTask 0 (closed x))
+
+-- `st` and `fm`, told by the task's record
+unfoldable pub taskLocal : Table → Step → Bool → Task → TaskTold
+taskLocal K (Wait d) empty x = toldTask 13 x
+taskLocal K (St t) empty x = stLocal K t x
+taskLocal K (Sm t n r) empty x = toldTask 13 x
+taskLocal K (Lm t a) empty x = toldTask 13 x
+taskLocal K (Ia a) empty x = toldTask 13 x
+taskLocal K (Ea a c) empty x = toldTask 13 x
+taskLocal K (Cx a) empty x = toldTask 13 x
+taskLocal K (Fa a p) empty x = toldTask 13 x
+taskLocal K (Fm t) empty x = fmLocal empty x
 
 abbrev pub lmLocal : Table → ℕ → ℕ → Task → Act → Told
 lmLocal K t a x y =
-    unless ((x .managing) and byManager (x .holder) and (eqb (K .task a) t and ((y .run) or (y .halt)))) 13 x y
+    unless ((x .managing) and byManager (x .holder) and (eqb (K .task a) t and ((y .run) or (y .halt)))) (told 13 x y)
     (told 0 (held (Activity a) 0 x) (again K (y .halt) (y .place) y))
 
 abbrev pub interrupted : Table → Place → Task → Act → Told
@@ -38,42 +59,38 @@ interrupted K Ether x y = told 0 (held Manager 0 x) (rested Ether)
 interrupted K (Codel c) x y = told 0 x (entered K c (outOfR y))
 
 abbrev pub iaLocal : Table → ℕ → Task → Act → Told
-iaLocal K a x y = unless (heldBy (x .holder) a and (y .halt)) 13 x y (interrupted K (stopOf K a) x y)
+iaLocal K a x y = unless (heldBy (x .holder) a and (y .halt)) (told 13 x y) (interrupted K (stopOf K a) x y)
 
 abbrev pub eaLocal : Table → ℕ → ℕ → Task → Act → Told
 eaLocal K a c x y =
-    unless (heldBy (x .holder) a and not (y .halt) and eaAllowed K y a c (y .place)) 13 x y
-    (unless (isEther (y .place) or leb 1 (y .clock)) 14 x y
+    unless (heldBy (x .holder) a and not (y .halt) and eaAllowed K y a c (y .place)) (told 13 x y)
+    (unless (isEther (y .place) or leb 1 (y .clock)) (told 14 x y)
     (told 0 (held (x .holder) (y .clock) x) (entered K c y)))
 
 -- clear: no codel that conflicts with its own executes
 abbrev pub cxLocal : Table → ℕ → Bool → Task → Act → Told
 cxLocal K a clear x y =
-    unless (heldBy (x .holder) a and not (y .halt) and stands K y (y .place)) 13 x y
-    (unless clear 15 x y
+    unless (heldBy (x .holder) a and not (y .halt) and stands K y (y .place)) (told 13 x y)
+    (unless clear (told 15 x y)
     (told 0 x (begun y)))
 
 abbrev pub faLocal : Table → ℕ → Place → Task → Act → Told
 faLocal K a p x y =
-    unless (heldBy (x .holder) a and (y .executing) and faAllowed K (y .place) p) 13 x y
-    (unless (leb 1 (y .clock)) 14 x y
+    unless (heldBy (x .holder) a and (y .executing) and faAllowed K (y .place) p) (told 13 x y)
+    (unless (leb 1 (y .clock)) (told 14 x y)
     (told 0 (held Manager (y .clock) x) (rested p)))
 
--- empty: no activity of the task is in N or R
-abbrev pub fmLocal : Bool → Task → Act → Told
-fmLocal empty x y = unless ((x .managing) and byManager (x .holder) and empty) 13 x y (told 0 (closed x) y)
-
--- a step other than `wait` and `sm`, told by its records; aside is what `cx` and `fm` ask beside them
+-- `lm`, `ia`, `ea`, `cx` and `fa`, told by the activity's record and its task's; clear is what `cx` asks beside them
 unfoldable pub local : Table → Step → Bool → Task → Act → Told
-local K (Wait d) aside x y = told 13 x y
-local K (St t) aside x y = stLocal K t x y
-local K (Sm t n r) aside x y = told 13 x y
-local K (Lm t a) aside x y = lmLocal K t a x y
-local K (Ia a) aside x y = iaLocal K a x y
-local K (Ea a c) aside x y = eaLocal K a c x y
-local K (Cx a) aside x y = cxLocal K a aside x y
-local K (Fa a p) aside x y = faLocal K a p x y
-local K (Fm t) aside x y = fmLocal aside x y
+local K (Wait d) clear x y = told 13 x y
+local K (St t) clear x y = told 13 x y
+local K (Sm t n r) clear x y = told 13 x y
+local K (Lm t a) clear x y = lmLocal K t a x y
+local K (Ia a) clear x y = iaLocal K a x y
+local K (Ea a c) clear x y = eaLocal K a c x y
+local K (Cx a) clear x y = cxLocal K a clear x y
+local K (Fa a p) clear x y = faLocal K a p x y
+local K (Fm t) clear x y = told 13 x y
 
 -- the rows that a step names exist
 unfoldable pub named : Table → Step → Bool
@@ -110,26 +127,50 @@ actIn (Cx a) = a
 actIn (Fa a p) = a
 actIn (Fm t) = 0
 
--- the steps that touch one task's and at most one activity's record: all but `wait` and `sm`
-abbrev pub isLocal : Step → Bool
-isLocal (Wait d) = false
-isLocal (St t) = true
-isLocal (Sm t n r) = false
-isLocal (Lm t a) = true
-isLocal (Ia a) = true
-isLocal (Ea a c) = true
-isLocal (Cx a) = true
-isLocal (Fa a p) = true
-isLocal (Fm t) = true
+-- the steps that touch one task's record alone
+abbrev pub ofTask : Step → Bool
+ofTask (Wait d) = false
+ofTask (St t) = true
+ofTask (Sm t n r) = false
+ofTask (Lm t a) = false
+ofTask (Ia a) = false
+ofTask (Ea a c) = false
+ofTask (Cx a) = false
+ofTask (Fa a p) = false
+ofTask (Fm t) = true
 
--- what a step asks beside its records: for `cx` that no conflicting codel executes, for `fm` that N and R are empty
-abbrev pub aside : Table → State → Step → Bool
-aside K s (Wait d) = true
-aside K s (St t) = true
-aside K s (Sm t n r) = true
-aside K s (Lm t a) = true
-aside K s (Ia a) = true
-aside K s (Ea a c) = true
-aside K s (Cx a) = clearAt K s (actAt s a .place)
-aside K s (Fa a p) = true
-aside K s (Fm t) = noneIn K s t
+-- the steps that touch one activity's record and its task's
+abbrev pub ofAct : Step → Bool
+ofAct (Wait d) = false
+ofAct (St t) = false
+ofAct (Sm t n r) = false
+ofAct (Lm t a) = true
+ofAct (Ia a) = true
+ofAct (Ea a c) = true
+ofAct (Cx a) = true
+ofAct (Fa a p) = true
+ofAct (Fm t) = false
+
+-- what `cx` asks beside the records: that no conflicting codel executes
+abbrev pub clearFor : Table → State → Step → Bool
+clearFor K s (Wait d) = true
+clearFor K s (St t) = true
+clearFor K s (Sm t n r) = true
+clearFor K s (Lm t a) = true
+clearFor K s (Ia a) = true
+clearFor K s (Ea a c) = true
+clearFor K s (Cx a) = clearAt K s (actAt s a .place)
+clearFor K s (Fa a p) = true
+clearFor K s (Fm t) = true
+
+-- what `fm` asks beside the record: that N and R are empty
+abbrev pub emptyFor : Table → State → Step → Bool
+emptyFor K s (Wait d) = true
+emptyFor K s (St t) = true
+emptyFor K s (Sm t n r) = true
+emptyFor K s (Lm t a) = true
+emptyFor K s (Ia a) = true
+emptyFor K s (Ea a c) = true
+emptyFor K s (Cx a) = true
+emptyFor K s (Fa a p) = true
+emptyFor K s (Fm t) = noneIn K s t

@@ -1,4 +1,4 @@
-// The steps on the records that they touch: one task's and one activity's go in by value and come back.
+// The steps on the records that they touch: a task's, or a task's and an activity's, go in by value and come back.
 ghost use mathlib.Core.Path.{_≡_};
 ghost use mathlib.Core.Bool.{not};
 ghost use Prim.Native.Nat.{max, _<_, _≤_};
@@ -9,14 +9,20 @@ ghost use Rattle.model.specs.Tables.{known, isEther};
 ghost use Rattle.model.specs.States.{heldBy, byManager, stands};
 ghost use Rattle.model.specs.Rules.{entered, rested, held, signalled, again, outOfR, eaAllowed, begun, faAllowed, closed};
 ghost use Rattle.prepared.specs.Prepared.{tableIn, Prepared};
-ghost use Rattle.rules.specs.Local.{told, stLocal, lmLocal, iaLocal, eaLocal, cxLocal, faLocal, fmLocal, local, named, taskIn, actIn};
+ghost use Rattle.rules.specs.Local.{toldTask, told, stLocal, fmLocal, taskLocal, lmLocal, iaLocal, eaLocal, cxLocal, faLocal, local, named, taskIn, actIn, ofTask};
 use model::Act;
 use model::Holder;
 use model::Place;
 use model::Step;
 use model::Task;
 
-// What a step comes to on its records: its refusal, 0 for none, and the records as they then are.
+// What a step of a task comes to: its refusal, 0 for none, and the task's record as it then is.
+pub struct TaskTold {
+    pub number: u64,
+    pub task: Task,
+}
+
+// What a step of an activity comes to: its refusal, 0 for none, and its task's record and its own as they then are.
 pub struct Told {
     pub number: u64,
     pub task: Task,
@@ -192,7 +198,14 @@ pub fn act_anew(y: Act) -> Act
     }
 }
 
-fn refused(n: u64, x: Task, y: Act) -> Told
+fn task_answer(n: u64, x: Task) -> TaskTold
+    ensures { λ r. ⌜ r ≡ toldTask n x ⌝ }
+{
+    let u = task_anew(x);
+    TaskTold { number: n, task: u }
+}
+
+fn answer(n: u64, x: Task, y: Act) -> Told
     ensures { λ r. ⌜ r ≡ told n x y ⌝ }
 {
     let u = task_anew(x);
@@ -234,15 +247,50 @@ pub fn is_manager(h: Holder) -> bool
     }
 }
 
-fn do_st(rows: &[u32], index: &[u32], t: usize, x: Task, y: Act) -> Told
+fn do_st(rows: &[u32], index: &[u32], t: usize, x: Task) -> TaskTold
     requires { ⌜ Prepared (now rows) (now index) × (t < tableIn (now rows) (now index) .ntasks) × (x .missed ≤ ceiling) ⌝ }
-    ensures { λ r. ⌜ r ≡ stLocal (tableIn (now (rows .entry)) (now (index .entry))) t x y ⌝ }
+    ensures { λ r. ⌜ r ≡ stLocal (tableIn (now (rows .entry)) (now (index .entry))) t x ⌝ }
 {
     if x.timer != prepared::period_of(rows, index, t) {
-        return refused(14, x, y);
+        return task_answer(14, x);
     }
     let u = signalled_task(x);
-    refused(0, u, y)
+    task_answer(0, u)
+}
+
+fn do_fm(empty: bool, x: Task) -> TaskTold
+    ensures { λ r. ⌜ r ≡ fmLocal empty x ⌝ }
+{
+    if !x.managing {
+        return task_answer(13, x);
+    }
+    let h = x.holder;
+    if !is_manager(h) {
+        return task_answer(13, x);
+    }
+    if !empty {
+        return task_answer(13, x);
+    }
+    let u = finished(x);
+    task_answer(0, u)
+}
+
+// `st` and `fm` on their task's record; empty is whether N and R are, for `fm`.
+pub fn task_step(rows: &[u32], index: &[u32], st: Step, empty: bool, x: Task) -> TaskTold
+    requires { ⌜ Prepared (now rows) (now index) × T (named (tableIn (now rows) (now index)) st) × (x .missed ≤ ceiling) ⌝ }
+    ensures { λ r. ⌜ r ≡ taskLocal (tableIn (now (rows .entry)) (now (index .entry))) st empty x ⌝ }
+{
+    match st {
+        Step::Wait(_) => task_answer(13, x),
+        Step::St(t) => do_st(rows, index, t, x),
+        Step::Sm(_, _, _) => task_answer(13, x),
+        Step::Lm(_, _) => task_answer(13, x),
+        Step::Ia(_) => task_answer(13, x),
+        Step::Ea(_, _) => task_answer(13, x),
+        Step::Cx(_) => task_answer(13, x),
+        Step::Fa(_, _) => task_answer(13, x),
+        Step::Fm(_) => do_fm(empty, x),
+    }
 }
 
 fn do_lm(rows: &[u32], index: &[u32], t: usize, a: usize, x: Task, y: Act) -> Told
@@ -250,21 +298,21 @@ fn do_lm(rows: &[u32], index: &[u32], t: usize, a: usize, x: Task, y: Act) -> To
     ensures { λ r. ⌜ r ≡ lmLocal (tableIn (now (rows .entry)) (now (index .entry))) t a x y ⌝ }
 {
     if !x.managing {
-        return refused(13, x, y);
+        return answer(13, x, y);
     }
     let h = x.holder;
     if !is_manager(h) {
-        return refused(13, x, y);
+        return answer(13, x, y);
     }
     if prepared::task_of(rows, index, a) != t {
-        return refused(13, x, y);
+        return answer(13, x, y);
     }
     if !either(y.run, y.halt) {
-        return refused(13, x, y);
+        return answer(13, x, y);
     }
     let u = with_holder(x, Holder::Activity(a), 0);
     let v = enter_again(rows, index, y);
-    refused(0, u, v)
+    answer(0, u, v)
 }
 
 // Both of the two.
@@ -301,21 +349,21 @@ fn do_ia(rows: &[u32], index: &[u32], a: usize, x: Task, y: Act) -> Told
 {
     let h = x.holder;
     if !is_held(h, a) {
-        return refused(13, x, y);
+        return answer(13, x, y);
     }
     if !y.halt {
-        return refused(13, x, y);
+        return answer(13, x, y);
     }
     let stop = prepared::stop_of(rows, index, a);
     match stop {
         Place::Ether => {
             let u = with_holder(x, Holder::Manager, 0);
             let v = at_rest(Place::Ether);
-            refused(0, u, v)
+            answer(0, u, v)
         }
         Place::Codel(c) => {
             let v = enter(rows, index, c, out_of_r(y));
-            refused(0, x, v)
+            answer(0, x, v)
         }
     }
 }
@@ -354,17 +402,17 @@ fn do_ea(rows: &[u32], index: &[u32], a: usize, c: usize, x: Task, y: Act) -> To
 {
     let h = x.holder;
     if !may_run(h, a, y.halt) {
-        return refused(13, x, y);
+        return answer(13, x, y);
     }
     if !may_enter(rows, index, a, c, y) {
-        return refused(13, x, y);
+        return answer(13, x, y);
     }
     if !may_end(y) {
-        return refused(14, x, y);
+        return answer(14, x, y);
     }
     let u = with_holder(x, h, y.clock);
     let v = enter(rows, index, c, y);
-    refused(0, u, v)
+    answer(0, u, v)
 }
 
 // Does an activity stand before its codel, as far as its own record tells?
@@ -399,16 +447,16 @@ fn do_cx(rows: &[u32], index: &[u32], a: usize, clear: bool, x: Task, y: Act) ->
 {
     let h = x.holder;
     if !may_run(h, a, y.halt) {
-        return refused(13, x, y);
+        return answer(13, x, y);
     }
     if !is_standing(rows, index, y) {
-        return refused(13, x, y);
+        return answer(13, x, y);
     }
     if !clear {
-        return refused(15, x, y);
+        return answer(15, x, y);
     }
     let v = started(y);
-    refused(0, x, v)
+    answer(0, x, v)
 }
 
 // "with a `pause` edge to the target or a `run` edge to ether"
@@ -436,56 +484,38 @@ fn do_fa(rows: &[u32], index: &[u32], a: usize, p: Place, x: Task, y: Act) -> To
 {
     let h = x.holder;
     if !is_held(h, a) {
-        return refused(13, x, y);
+        return answer(13, x, y);
     }
     if !y.executing {
-        return refused(13, x, y);
+        return answer(13, x, y);
     }
     let q = y.place;
     if !may_leave(rows, index, q, p) {
-        return refused(13, x, y);
+        return answer(13, x, y);
     }
     if y.clock < 1 {
-        return refused(14, x, y);
+        return answer(14, x, y);
     }
     let u = with_holder(x, Holder::Manager, y.clock);
     let v = at_rest(p);
-    refused(0, u, v)
+    answer(0, u, v)
 }
 
-fn do_fm(empty: bool, x: Task, y: Act) -> Told
-    ensures { λ r. ⌜ r ≡ fmLocal empty x y ⌝ }
-{
-    if !x.managing {
-        return refused(13, x, y);
-    }
-    let h = x.holder;
-    if !is_manager(h) {
-        return refused(13, x, y);
-    }
-    if !empty {
-        return refused(13, x, y);
-    }
-    let u = finished(x);
-    refused(0, u, y)
-}
-
-// A step other than `wait` and `sm` on its two records; aside is whether the codel is clear of conflicts, for `cx`, or whether N and R are
-// empty, for `fm`.
-pub fn local_step(rows: &[u32], index: &[u32], st: Step, aside: bool, x: Task, y: Act) -> Told
-    requires { ⌜ Prepared (now rows) (now index) × T (named (tableIn (now rows) (now index)) st) × T (known (tableIn (now rows) (now index)) (y .place)) × (x .missed ≤ ceiling) ⌝ }
-    ensures { λ r. ⌜ r ≡ local (tableIn (now (rows .entry)) (now (index .entry))) st aside x y ⌝ }
+// `lm`, `ia`, `ea`, `cx` and `fa` on the activity's record and its task's; clear is whether no conflicting codel executes, for `cx`.
+pub fn local_step(rows: &[u32], index: &[u32], st: Step, clear: bool, x: Task, y: Act) -> Told
+    requires { ⌜ Prepared (now rows) (now index) × T (named (tableIn (now rows) (now index)) st) × T (known (tableIn (now rows) (now index)) (y .place)) ⌝ }
+    ensures { λ r. ⌜ r ≡ local (tableIn (now (rows .entry)) (now (index .entry))) st clear x y ⌝ }
 {
     match st {
-        Step::Wait(_) => refused(13, x, y),
-        Step::St(t) => do_st(rows, index, t, x, y),
-        Step::Sm(_, _, _) => refused(13, x, y),
+        Step::Wait(_) => answer(13, x, y),
+        Step::St(_) => answer(13, x, y),
+        Step::Sm(_, _, _) => answer(13, x, y),
         Step::Lm(t, a) => do_lm(rows, index, t, a, x, y),
         Step::Ia(a) => do_ia(rows, index, a, x, y),
         Step::Ea(a, c) => do_ea(rows, index, a, c, x, y),
-        Step::Cx(a) => do_cx(rows, index, a, aside, x, y),
+        Step::Cx(a) => do_cx(rows, index, a, clear, x, y),
         Step::Fa(a, p) => do_fa(rows, index, a, p, x, y),
-        Step::Fm(_) => do_fm(aside, x, y),
+        Step::Fm(_) => answer(13, x, y),
     }
 }
 
@@ -554,5 +584,22 @@ pub fn act_in(st: Step) -> usize
         Step::Cx(a) => a,
         Step::Fa(a, _) => a,
         Step::Fm(_) => 0,
+    }
+}
+
+// Does a step touch one task's record alone?
+pub fn is_of_task(st: Step) -> bool
+    ensures { λ r. ⌜ r ≡ ofTask st ⌝ }
+{
+    match st {
+        Step::Wait(_) => false,
+        Step::St(_) => true,
+        Step::Sm(_, _, _) => false,
+        Step::Lm(_, _) => false,
+        Step::Ia(_) => false,
+        Step::Ea(_, _) => false,
+        Step::Cx(_) => false,
+        Step::Fa(_, _) => false,
+        Step::Fm(_) => true,
     }
 }

@@ -1,4 +1,4 @@
-// Runs the bench cases of document 01 through the engine's step, and more for each refusal. A line for each case: its note, the numbers that
+// Runs the bench cases of document 01 through `stepping::step`, and more for each refusal. A line for each case: its note, the numbers that
 // the lines of its log are answered with, one after another from its first state, and then the date and, of task 0, its timer, cycle
 // number, open date, missed and longest.
 ghost use Prim.Native.Nat.{_<_, _≤_};
@@ -41,7 +41,7 @@ fn line_end(log: &[u8], at: usize) -> usize
     log.len()
 }
 
-// Gives the lines of a log to the engine, one after another, and says what comes of them.
+// Gives the lines of a log to `step`, one after another, and says what comes of them.
 fn show(note: &[u8], t: Table, start: State, log: &[u8]) {
     say(note);
     say(b":");
@@ -49,7 +49,7 @@ fn show(note: &[u8], t: Table, start: State, log: &[u8]) {
     let mut at = 0;
     while at < log.len() {
         let end = line_end(log, at);
-        let r = engine::step(t, s, &log[at..end]);
+        let r = stepping::step(t, s, &log[at..end]);
         say_number(r.number);
         s = r.state;
         at = end;

@@ -13,3 +13,4 @@ pub mod WellFormed
 pub mod Trips
 pub mod Turns
 pub mod TableTurns
+pub mod Unique

@@ -6,3 +6,4 @@ pub mod Digits
 pub mod Numbers
 pub mod Sets
 pub mod Turns
+pub mod Unique

@@ -21,8 +21,8 @@ use Rattle.model.proofs.Formed.{Formed}
 use Rattle.model.proofs.Soundness.{Sound, executing-at}
 use Rattle.table.proofs.Tests.{each-same}
 use Rattle.prepared.specs.Prepared.{conflict}
-use Rattle.rules.specs.Local.{actIn, aside}
-use Rattle.waits.specs.Beside.{noCodel, busyAt, busyOf, listedOf, busyIn, listedIn, farFrom, clearBy, clearByAt, noneBy, asideBy}
+use Rattle.rules.specs.Local.{actIn, clearFor, emptyFor}
+use Rattle.waits.specs.Beside.{noCodel, busyAt, busyOf, listedOf, busyIn, listedIn, farFrom, clearBy, clearByAt, noneBy, clearForBy, emptyForBy}
 
 -- a row set before or after the map
 pub map-set : {A B : Type 0} (f : A → B) (l : List A) (i : ℕ) (v : A) → map f (set l i v) ≡ set (map f l) i (f v)
@@ -112,14 +112,25 @@ none-by K s t = each-same _ _ (K .nacts) (λ a h. rw (listed-at s a) (neither (e
     neither true false = refl
     neither false x = refl
 
--- what a step asks beside its records
-pub aside-by : (K : Table) (F : Formed K) (s : State) (S : Sound K s) (x : Step) → asideBy K (busyIn s) (listedIn s) x (actAt s (actIn x) .place) ≡ aside K s x
-aside-by K F s S (Wait d) = refl
-aside-by K F s S (St t) = refl
-aside-by K F s S (Sm t n r) = refl
-aside-by K F s S (Lm t a) = refl
-aside-by K F s S (Ia a) = refl
-aside-by K F s S (Ea a c) = refl
-aside-by K F s S (Cx a) = clear-by-at K F s S (actAt s a .place)
-aside-by K F s S (Fa a p) = refl
-aside-by K F s S (Fm t) = none-by K s t
+-- what `cx` and `fm` ask beside the records
+pub clear-for-by : (K : Table) (F : Formed K) (s : State) (S : Sound K s) (x : Step) → clearForBy K (busyIn s) x (actAt s (actIn x) .place) ≡ clearFor K s x
+clear-for-by K F s S (Wait d) = refl
+clear-for-by K F s S (St t) = refl
+clear-for-by K F s S (Sm t n r) = refl
+clear-for-by K F s S (Lm t a) = refl
+clear-for-by K F s S (Ia a) = refl
+clear-for-by K F s S (Ea a c) = refl
+clear-for-by K F s S (Cx a) = clear-by-at K F s S (actAt s a .place)
+clear-for-by K F s S (Fa a p) = refl
+clear-for-by K F s S (Fm t) = refl
+
+pub empty-for-by : (K : Table) (s : State) (x : Step) → emptyForBy K (listedIn s) x ≡ emptyFor K s x
+empty-for-by K s (Wait d) = refl
+empty-for-by K s (St t) = refl
+empty-for-by K s (Sm t n r) = refl
+empty-for-by K s (Lm t a) = refl
+empty-for-by K s (Ia a) = refl
+empty-for-by K s (Ea a c) = refl
+empty-for-by K s (Cx a) = refl
+empty-for-by K s (Fa a p) = refl
+empty-for-by K s (Fm t) = none-by K s t

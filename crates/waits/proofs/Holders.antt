@@ -1,17 +1,17 @@
 -- One law for each way through the tests of a wait, in the shape of what is known there.
 use mathlib.Core.Bool.{Bool, true, false, not}
 use mathlib.Core.List.{List, map}
-use mathlib.Core.Path.{_≡_, refl, sym, subst, _∙_}
+use mathlib.Core.Path.{_≡_, refl, sym, ap, subst, _∙_}
 use Prim.Native.Nat.{ℕ, _+_, _≤_, _<_}
 use native.Mathlib.Omega.{arith}
 use native.Mathlib.Numerals.{add-one}
 use lib.Dec.{leb, leb→le}
 use lib.ListN.{length, length-map}
 use borrow.Author.Tests.{le-leb, lt-leb, not-true, not-false}
-use Rattle.model.specs.Tests.{_and_, each, some, need}
+use Rattle.model.specs.Tests.{_and_, _or_, each, some, need}
 use Rattle.model.specs.Limits.{mostTicks, inRange, ceiling}
 use Rattle.model.specs.Tables.{Table, safe}
-use Rattle.model.specs.States.{taskAt, actAt, byManager}
+use Rattle.model.specs.States.{taskAt, actAt}
 use Rattle.model.specs.Rules.{waitRefusal}
 use Rattle.model.specs.declared.Task.{Task}
 use Rattle.model.specs.declared.Act.{Act}
@@ -23,7 +23,7 @@ use Rattle.model.proofs.Tests.{T-true, true-T, and-r, some-mk}
 use Rattle.model.proofs.Formed.{Formed}
 use Rattle.model.proofs.Soundness.{Sound, holder-in}
 use Rattle.waits.specs.Beside.{busyOf, busyIn, clearBy}
-use Rattle.waits.specs.Waits.{heldIn, actHinders, heldHinders, hindersBy, actRoom, roomBy}
+use Rattle.waits.specs.Waits.{actHinders, actRoom, timerRoom}
 use Rattle.waits.proofs.Waits.{hindersAt, roomAt, wait-by-holders}
 
 -- "d from 1 to 1,000,000,000"
@@ -52,29 +52,7 @@ module _ (K : Table) (busy : List ℕ) (y : Act) where
       pub hinders-stands : (b : Bool) → r ≡ false → y .executing ≡ false → b ≡ clearBy K busy c → b ≡ actHinders K busy y
       hinders-stands b f x i = rw (e, p, ← q, f, x) i
 
-  pub held-manager : (h : Holder) → h ≡ Manager → false ≡ heldHinders K busy h y
-  held-manager h e = rw e
-
-  pub held-act : (h : Holder) (a : ℕ) (r : Bool) → h ≡ Activity a → r ≡ actHinders K busy y → r ≡ heldHinders K busy h y
-  held-act h a r e q = rw e q
-
-  -- 16 of a task
-  module _ (x : Task) where
-    module _ (m : x .managing ≡ true) (r : Bool) (q : r ≡ byManager (x .holder)) where
-      pub by-manager : r ≡ true → true ≡ hindersBy K busy x y
-      by-manager f = rw (m, ← q, f)
-
-      pub by-held : (b : Bool) → r ≡ false → b ≡ heldHinders K busy (x .holder) y → b ≡ hindersBy K busy x y
-      by-held b f i = rw (m, ← q, f) i
-
-    module _ (m : x .managing ≡ false) where
-      pub by-signal : x .signal ≡ true → true ≡ hindersBy K busy x y
-      by-signal g = rw (m, g)
-
-      pub by-waiting : (b : Bool) → x .signal ≡ false → b ≡ heldHinders K busy (x .holder) y → b ≡ hindersBy K busy x y
-      by-waiting b g i = rw (m, g) i
-
-pub ruleset hindrances = (hinders-halt, hinders-ether, hinders-safe, hinders-runs, hinders-stands, held-manager, held-act, by-manager, by-held, by-signal, by-waiting)
+pub ruleset hindrances = (hinders-halt, hinders-ether, hinders-safe, hinders-runs, hinders-stands)
 
 -- a holder's room, and a task's
 module _ (K : Table) (d : ℕ) (y : Act) where
@@ -88,18 +66,11 @@ module _ (K : Table) (d : ℕ) (y : Act) where
     pub room-codel : (c l : ℕ) → y .place ≡ Codel c → l ≡ K .limit c → leb (y .clock + d) l ≡ actRoom K d y
     room-codel c l p q = rw (not-false (y .executing) e, p, q)
 
-  module _ (t : ℕ) (x : Task) (n : ℕ) (q : n ≡ K .period t) where
-    pub room-late : n < x .timer + d → false ≡ roomBy K d t x y
-    room-late l = rw (← q, lt-leb (x .timer + d) n l)
+pub ruleset rooms = (room-idle, room-ether, room-codel)
 
-    module _ (l : x .timer + d ≤ n) where
-      pub room-manager : x .holder ≡ Manager → true ≡ roomBy K d t x y
-      room-manager h = rw (← q, le-leb (x .timer + d) n l, h)
-
-      pub room-held : (a : ℕ) (r : Bool) → x .holder ≡ Activity a → r ≡ actRoom K d y → r ≡ roomBy K d t x y
-      room-held a r h i = rw (← q, le-leb (x .timer + d) n l, h) i
-
-pub ruleset rooms = (room-idle, room-ether, room-codel, room-late, room-manager, room-held)
+-- a timer's room
+pub timer-fits-in : (K : Table) (d t timer n : ℕ) → n ≡ K .period t → leb (timer + d) n ≡ timerRoom K d t timer
+timer-fits-in K d t timer n q = rw q
 
 -- the number of a wait that no task hinders
 module _ (room : Bool) (date d : ℕ) where
@@ -114,6 +85,14 @@ module _ (room : Bool) (date d : ℕ) where
     number-none l = rw (not-false room f, le-leb (date + d) ceiling l)
 
 pub ruleset numbers = (number-full, number-late, number-none)
+
+and-true : (b : Bool) → (b and true) ≡ b
+and-true true = refl
+and-true false = refl
+
+and-and : (a b c : Bool) → ((a and b) and c) ≡ (a and (b and c))
+and-and true b c = refl
+and-and false b c = refl
 
 -- an array's rows as the code holds them are as many as the state's
 pub rows-long : {A B : Type 0} (f : A → B) (l : List A) (n : ℕ) → length (map f l) ≡ n → length l ≡ n
@@ -138,13 +117,9 @@ module _ {K : Table} {s : State} {d nt : ℕ} (A : Asks K s d nt) where
     pub task-fits : t < 16
     task-fits = omega (arith, A .all, A .formed .fits .0)
 
-    -- a task's holder, or 0, has its row
-    pub held-fits : {a : ℕ} → a ≡ heldIn (taskAt s t .holder) → a < 64
-    held-fits {a} e = go (taskAt s t .holder) refl e
-      where
-        go : (z : Holder) → taskAt s t .holder ≡ z → a ≡ heldIn z → a < 64
-        go Manager q i = omega arith
-        go (Activity b) q i = omega (arith, holder-in K s (A .sound) t b (omega (arith, A .all)) q .0, A .formed .fits .1)
+    -- an activity that holds it has its row
+    pub holder-fits : {a : ℕ} → taskAt s t .holder ≡ Activity a → a < 64
+    holder-fits {a} e = omega (arith, holder-in K s (A .sound) t a (omega (arith, A .all)) e .0, A .formed .fits .1)
 
 -- its first k tasks do not hinder it, and room says whether all of them have room for it
 pub record Asked (K : Table) (s : State) (busy : List ℕ) (d nt : ℕ) (room : Bool) (k : ℕ) : Type 0 where
@@ -163,19 +138,33 @@ module _ {K : Table} {s : State} {busy : List ℕ} {d nt : ℕ} {room : Bool} {k
   pub busy-long : K .nacts ≤ length busy
   busy-long = rw (Q .kept, length-map (s .acts) busyOf) (omega (arith, Q .asks .formed .fits .1, Q .asks .sound .shape .acts))
 
-  -- one more task
-  module _ (h : k < nt) (a : ℕ) (e : a ≡ heldIn (taskAt s k .holder)) (r : Bool) (i : r ≡ hindersBy K busy (taskAt s k) (actAt s a)) where
-    hinders-is : hindersAt K s k ≡ r
-    hinders-is = rw (← e, ← Q .kept, ← i)
-
-    pub wait-hindered : r ≡ true → 16 ≡ waitRefusal K s d
-    wait-hindered f =
-        let w : some (K .ntasks) (hindersAt K s) ≡ true = T-true _ (some-mk (hindersAt K s) (K .ntasks) k (omega (arith, Q .asks .all)) (true-T _ (hinders-is ∙ f))) in
+  -- one more task: it hinders, or it does not and its room is known
+  module _ (h : k < nt) where
+    stops : hindersAt K s k ≡ true → 16 ≡ waitRefusal K s d
+    stops f =
+        let w : some (K .ntasks) (hindersAt K s) ≡ true = T-true _ (some-mk (hindersAt K s) (K .ntasks) k (omega (arith, Q .asks .all)) (true-T _ f)) in
         rw (wait-by-holders K (Q .asks .formed) s (Q .asks .sound) d, Q .asks .ticks, w)
 
-    pub asked-more : r ≡ false → (v : Bool) → v ≡ roomBy K d k (taskAt s k) (actAt s a) → (w : Bool) → w ≡ (room and v) → Asked K s busy d nt w (k + 1)
+    goes : hindersAt K s k ≡ false → {w : Bool} → w ≡ (room and roomAt K s d k) → Asked K s busy d nt w (k + 1)
     unfolding each some
-    asked-more f v j w g = record { asks = Q .asks; kept = Q .kept; most = omega arith; none = rw (add-one, Q .none) (hinders-is ∙ f); roomy = rw (add-one, ← Q .roomy, ← e, ← j) g }
+    goes f g = record { asks = Q .asks; kept = Q .kept; most = omega arith; none = rw (add-one, Q .none) f; roomy = rw (add-one, ← Q .roomy) g }
+
+    module _ {v : Bool} (j : v ≡ timerRoom K d k (taskAt s k .timer)) {w : Bool} (g : w ≡ (room and v)) where
+      -- its manager holds
+      module _ (q : taskAt s k .holder ≡ Manager) {r : Bool} (i : r ≡ (taskAt s k .managing or taskAt s k .signal)) where
+        pub manager-stops : r ≡ true → 16 ≡ waitRefusal K s d
+        manager-stops f = stops (rw q (sym i ∙ f))
+
+        pub manager-goes : r ≡ false → Asked K s busy d nt w (k + 1)
+        manager-goes f = goes (rw q (sym i ∙ f)) (g ∙ rw (q, j) (ap (λ b. room and b) (sym (and-true _))))
+
+      -- an activity does
+      module _ {a : ℕ} (q : taskAt s k .holder ≡ Activity a) {r : Bool} (i : r ≡ actHinders K busy (actAt s a)) where
+        pub activity-stops : r ≡ true → 16 ≡ waitRefusal K s d
+        activity-stops f = stops (rw (q, ← Q .kept) (sym i ∙ f))
+
+        pub activity-goes : r ≡ false → {u : Bool} → u ≡ actRoom K d (actAt s a) → {x : Bool} → x ≡ (w and u) → Asked K s busy d nt x (k + 1)
+        activity-goes f e p = goes (rw (q, ← Q .kept) (sym i ∙ f)) (p ∙ rw (g, e, j, q) (and-and room _ _))
 
   -- all have been asked
   pub wait-numbered : nt ≤ k → (n : ℕ) → n ≡ need room 17 (need (leb (s .date + d) ceiling) 18 0) → n ≡ waitRefusal K s d

@@ -25,7 +25,7 @@ use Rattle.prepared.specs.Prepared.{tableIn, beginOf, endOf, actsAt, Prepared, 
 use Rattle.prepared.proofs.Stored.{most-acts}
 use Rattle.prepared.proofs.Walks.{Passed, found, absent}
 use Rattle.rules.specs.Local.{named}
-use Rattle.waits.specs.Beside.{noCodel, busyOf, farFrom, clearBy, clearByAt, noneBy, asideBy}
+use Rattle.waits.specs.Beside.{noCodel, busyOf, farFrom, clearBy, clearByAt, noneBy, clearForBy, emptyForBy}
 use Rattle.waits.proofs.Facts.{act-of}
 use Rattle.waits.proofs.Bits.{within-low, within-range}
 
@@ -122,8 +122,11 @@ module _ {rows index : List ℕ} (P : Prepared rows index) (listed : List ℕ) (
       rw (none-some (tableIn rows index) listed t, ← q)
 
 -- what a step asks beside its records, by its kind
-pub aside-is : (K : Table) (busy listed : List ℕ) (x z : Step) (p : Place) (r : Bool) → x ≡ z → r ≡ asideBy K busy listed z p → r ≡ asideBy K busy listed x p
-aside-is K busy listed x z p r e q = rw e q
+pub clear-is : (K : Table) (busy : List ℕ) (x z : Step) (p : Place) (r : Bool) → x ≡ z → r ≡ clearForBy K busy z p → r ≡ clearForBy K busy x p
+clear-is K busy x z p r e q = rw e q
+
+pub empty-is : (K : Table) (listed : List ℕ) (x z : Step) (r : Bool) → x ≡ z → r ≡ emptyForBy K listed z → r ≡ emptyForBy K listed x
+empty-is K listed x z r e q = rw e q
 
 pub fm-task : (K : Table) (x : Step) (t : ℕ) → T (named K x) → x ≡ Fm t → t < K .ntasks
 unfolding named

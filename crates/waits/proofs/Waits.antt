@@ -1,13 +1,13 @@
 -- In a sound state the refusal of a wait is told by the tasks and their holders.
-use mathlib.Core.Bool.{Bool, not}
+use mathlib.Core.Bool.{Bool, true, false, not}
 use mathlib.Core.Path.{_≡_, refl, subst, subst⁻¹, _∙_}
 use Prim.Native.Nat.{ℕ, _+_, _<_}
 use lib.Dec.{T, leb, eqb→eq, eqb-refl}
-use Rattle.model.specs.Tests.{_implies_, each, some, need}
+use Rattle.model.specs.Tests.{_or_, _implies_, each, some, need}
 use Rattle.model.specs.Limits.{inRange, ceiling}
 use Rattle.model.specs.Tables.{Table, isCodel}
 use Rattle.model.specs.States.{taskAt, actAt, runs, executes}
-use Rattle.model.specs.Rules.{urgent, roomFor, waitRefusal, holderHinders, taskHinders, hindered}
+use Rattle.model.specs.Rules.{urgent, roomFor, waitRefusal, taskHinders, hindered}
 use Rattle.model.specs.declared.State.{State}
 use Rattle.model.specs.declared.Place.{Place}
 use Rattle.model.specs.declared.Place.the-variants.{Ether, Codel}
@@ -15,29 +15,38 @@ use Rattle.model.specs.declared.Holder.{Holder}
 use Rattle.model.specs.declared.Holder.the-variants.{Manager, Activity}
 use Rattle.model.proofs.Tests.{same-test, and-i, and-l, and-r, imp-i, imp-e, each-at, each-mk}
 use Rattle.model.proofs.Formed.{Formed}
-use Rattle.model.proofs.Soundness.{Sound, held-is, holder-in, executing-at}
+use Rattle.model.proofs.Soundness.{Sound, held-is, holder-in, executing-at, task-at}
 use Rattle.model.proofs.Urgent.{urgent-hindered}
 use Rattle.table.proofs.Tests.{some-same}
 use Rattle.waits.specs.Beside.{busyIn}
-use Rattle.waits.specs.Waits.{heldIn, heldHinders, hindersBy, limitAt, heldRoom, roomBy}
+use Rattle.waits.specs.Waits.{heldIn, hindersBy, limitAt, heldRoom, roomBy}
 use Rattle.waits.proofs.Beside.{clear-by-at}
 
 -- the two tests of task t
 abbrev pub hindersAt : Table → State → ℕ → Bool
-hindersAt K s t = hindersBy K (busyIn s) (taskAt s t) (actAt s (heldIn (taskAt s t .holder)))
+hindersAt K s t = hindersBy K (busyIn s) (taskAt s t) (taskAt s t .holder) (actAt s (heldIn (taskAt s t .holder)))
 
 abbrev pub roomAt : Table → State → ℕ → ℕ → Bool
 roomAt K s d t = roomBy K d t (taskAt s t) (actAt s (heldIn (taskAt s t .holder)))
 
+or-false : (b : Bool) → (b or false) ≡ b
+or-false true = refl
+or-false false = refl
+
 module _ (K : Table) (F : Formed K) (s : State) (S : Sound K s) where
-  -- 16
-  held-same : (h : Holder) → heldHinders K (busyIn s) h (actAt s (heldIn h)) ≡ holderHinders K s h
-  held-same Manager = refl
-  held-same (Activity a) = rw (clear-by-at K F s S (actAt s a .place))
+  -- 16: a task that an activity holds is managing
+  same-hinders : (t : ℕ) → t < K .ntasks → taskHinders K s t ≡ hindersAt K s t
+  same-hinders t l = go (taskAt s t .managing) (taskAt s t .holder) refl refl
+    where
+      go : (m : Bool) (h : Holder) → taskAt s t .managing ≡ m → taskAt s t .holder ≡ h → taskHinders K s t ≡ hindersAt K s t
+      go true Manager e q = rw (q, e)
+      go true (Activity a) e q = rw (e, q, clear-by-at K F s S (actAt s a .place))
+      go false Manager e q = rw (q, e) (or-false (taskAt s t .signal))
+      go false (Activity a) e q = absurd (rw (e, q) at (task-at K s S t l .waits))
 
   urgent-by : urgent K s ≡ some (K .ntasks) (hindersAt K s)
   unfolding hindered
-  urgent-by = urgent-hindered K F s S ∙ some-same (taskHinders K s) (hindersAt K s) (K .ntasks) (λ t h. rw (held-same (taskAt s t .holder)))
+  urgent-by = urgent-hindered K F s S ∙ some-same (taskHinders K s) (hindersAt K s) (K .ntasks) same-hinders
 
   -- 17: what executes is a holder
   room-by : (d : ℕ) → roomFor K s d ≡ each (K .ntasks) (roomAt K s d)

@@ -54,14 +54,26 @@ clearByAt K busy (Codel c) = clearBy K busy c
 unfoldable pub noneBy : Table → List ℕ → ℕ → Bool
 noneBy K listed t = each (K .nacts) (λ a. eqb (K .task a) t implies eqb (getD listed a 0) 0)
 
--- what a step of an activity at the place p asks beside its records
-abbrev pub asideBy : Table → List ℕ → List ℕ → Step → Place → Bool
-asideBy K busy listed (Wait d) p = true
-asideBy K busy listed (St t) p = true
-asideBy K busy listed (Sm t n r) p = true
-asideBy K busy listed (Lm t a) p = true
-asideBy K busy listed (Ia a) p = true
-asideBy K busy listed (Ea a c) p = true
-asideBy K busy listed (Cx a) p = clearByAt K busy p
-asideBy K busy listed (Fa a q) p = true
-asideBy K busy listed (Fm t) p = noneBy K listed t
+-- what `cx` of an activity at the place p asks beside the records
+abbrev pub clearForBy : Table → List ℕ → Step → Place → Bool
+clearForBy K busy (Wait d) p = true
+clearForBy K busy (St t) p = true
+clearForBy K busy (Sm t n r) p = true
+clearForBy K busy (Lm t a) p = true
+clearForBy K busy (Ia a) p = true
+clearForBy K busy (Ea a c) p = true
+clearForBy K busy (Cx a) p = clearByAt K busy p
+clearForBy K busy (Fa a q) p = true
+clearForBy K busy (Fm t) p = true
+
+-- what `fm` asks beside the record
+abbrev pub emptyForBy : Table → List ℕ → Step → Bool
+emptyForBy K listed (Wait d) = true
+emptyForBy K listed (St t) = true
+emptyForBy K listed (Sm t n r) = true
+emptyForBy K listed (Lm t a) = true
+emptyForBy K listed (Ia a) = true
+emptyForBy K listed (Ea a c) = true
+emptyForBy K listed (Cx a) = true
+emptyForBy K listed (Fa a p) = true
+emptyForBy K listed (Fm t) = noneBy K listed t

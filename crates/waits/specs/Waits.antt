@@ -1,12 +1,12 @@
 -- The tests of a wait told by a task's record x and its holder's y, and what a wait does to the holders' clocks.
 use Prim.Native.Nat.{ℕ, zero, suc, _+_}
-use mathlib.Core.Bool.{Bool, true, false, not}
+use mathlib.Core.Bool.{Bool, true}
 use mathlib.Core.List.{List}
 use lib.ListN.{getD, set}
 use lib.Dec.{leb}
 use Rattle.model.specs.Tests.{_and_, _or_, _implies_}
 use Rattle.model.specs.Tables.{Table, isEther}
-use Rattle.model.specs.States.{noAct, taskAt, byManager, stands}
+use Rattle.model.specs.States.{noAct, taskAt, stands}
 use Rattle.model.specs.Rules.{clocked}
 use Rattle.model.specs.declared.Task.{Task}
 use Rattle.model.specs.declared.Act.{Act}
@@ -29,15 +29,10 @@ actHinders K busy y =
     or isEther (y .place)
     or (stands K y (y .place) and clearByAt K busy (y .place))
 
-abbrev pub heldHinders : Table → List ℕ → Holder → Act → Bool
-heldHinders K busy Manager y = false
-heldHinders K busy (Activity a) y = actHinders K busy y
-
-abbrev pub hindersBy : Table → List ℕ → Task → Act → Bool
-hindersBy K busy x y =
-    (not (x .managing) and (x .signal))
-    or ((x .managing) and byManager (x .holder))
-    or heldHinders K busy (x .holder) y
+-- 16 of a task by its holder: the manager hinders while it manages or its signal is set
+abbrev pub hindersBy : Table → List ℕ → Task → Holder → Act → Bool
+hindersBy K busy x Manager y = (x .managing) or (x .signal)
+hindersBy K busy x (Activity a) y = actHinders K busy y
 
 -- 17: the timer stays within the period, and the holder's clock, where it executes, within its codel's limit
 abbrev pub limitAt : Table → Place → ℕ → Bool
@@ -51,8 +46,11 @@ abbrev pub heldRoom : Table → ℕ → Holder → Act → Bool
 heldRoom K d Manager y = true
 heldRoom K d (Activity a) y = actRoom K d y
 
+abbrev pub timerRoom : Table → ℕ → ℕ → ℕ → Bool
+timerRoom K d t timer = leb (timer + d) (K .period t)
+
 abbrev pub roomBy : Table → ℕ → ℕ → Task → Act → Bool
-roomBy K d t x y = leb (x .timer + d) (K .period t) and heldRoom K d (x .holder) y
+roomBy K d t x y = timerRoom K d t (x .timer) and heldRoom K d (x .holder) y
 
 -- the activities once the holders of the first n tasks are older by d
 abbrev pub older : Holder → ℕ → List Act → List Act

@@ -10,13 +10,11 @@ ghost use Rattle.model.specs.Tables.{known};
 ghost use Rattle.model.specs.Rules.{within};
 ghost use Rattle.prepared.specs.Prepared.{tableIn, Prepared};
 ghost use Rattle.rules.specs.Local.{named};
-ghost use Rattle.waits.specs.Beside.{busyOf, listedOf, clearBy, clearByAt, noneBy, asideBy};
-ghost use Rattle.waits.specs.Waits.{heldIn, actHinders, heldHinders, hindersBy, actRoom, roomBy};
+ghost use Rattle.waits.specs.Beside.{busyOf, listedOf, clearBy, clearByAt, noneBy, clearForBy, emptyForBy};
+ghost use Rattle.waits.specs.Waits.{actHinders, actRoom, timerRoom};
 use model::Act;
-use model::Holder;
 use model::Place;
 use model::Step;
-use model::Task;
 
 // The number of an activity's codel where it executes none.
 const NO_CODEL: usize = 256;
@@ -101,17 +99,10 @@ fn none_listed(rows: &[u32], index: &[u32], listed: &[usize], t: usize) -> bool
     true
 }
 
-// What a step of an activity at a place asks beside its records.
-pub fn aside_of(
-    rows: &[u32],
-    index: &[u32],
-    busy: &[usize],
-    listed: &[usize],
-    st: Step,
-    p: Place,
-) -> bool
-    requires { ⌜ Prepared (now rows) (now index) × T (named (tableIn (now rows) (now index)) st) × T (known (tableIn (now rows) (now index)) p) × (tableIn (now rows) (now index) .nacts ≤ length (now busy)) × (tableIn (now rows) (now index) .nacts ≤ length (now listed)) ⌝ }
-    ensures { λ r. ⌜ r ≡ asideBy (tableIn (now (rows .entry)) (now (index .entry))) (now (busy .entry)) (now (listed .entry)) st p ⌝ }
+// What `cx` of an activity at a place asks beside the records: is no conflicting codel executing? Other steps ask nothing.
+pub fn is_clear_for(rows: &[u32], index: &[u32], busy: &[usize], st: Step, p: Place) -> bool
+    requires { ⌜ Prepared (now rows) (now index) × T (known (tableIn (now rows) (now index)) p) × (tableIn (now rows) (now index) .nacts ≤ length (now busy)) ⌝ }
+    ensures { λ r. ⌜ r ≡ clearForBy (tableIn (now (rows .entry)) (now (index .entry))) (now (busy .entry)) st p ⌝ }
 {
     match st {
         Step::Wait(_) => true,
@@ -121,6 +112,24 @@ pub fn aside_of(
         Step::Ia(_) => true,
         Step::Ea(_, _) => true,
         Step::Cx(_) => is_clear_at(rows, index, busy, p),
+        Step::Fa(_, _) => true,
+        Step::Fm(_) => true,
+    }
+}
+
+// What `fm` asks beside the record: are N and R of its task empty? Other steps ask nothing.
+pub fn is_empty_for(rows: &[u32], index: &[u32], listed: &[usize], st: Step) -> bool
+    requires { ⌜ Prepared (now rows) (now index) × T (named (tableIn (now rows) (now index)) st) × (tableIn (now rows) (now index) .nacts ≤ length (now listed)) ⌝ }
+    ensures { λ r. ⌜ r ≡ emptyForBy (tableIn (now (rows .entry)) (now (index .entry))) (now (listed .entry)) st ⌝ }
+{
+    match st {
+        Step::Wait(_) => true,
+        Step::St(_) => true,
+        Step::Sm(_, _, _) => true,
+        Step::Lm(_, _) => true,
+        Step::Ia(_) => true,
+        Step::Ea(_, _) => true,
+        Step::Cx(_) => true,
         Step::Fa(_, _) => true,
         Step::Fm(t) => none_listed(rows, index, listed, t),
     }
@@ -159,18 +168,8 @@ pub fn in_range(d: u64) -> bool
     d <= MOST_TICKS
 }
 
-// The activity that holds, 0 where the manager does: the row of it that the tests of a task are given.
-pub fn held_in(h: Holder) -> usize
-    ensures { λ r. ⌜ r ≡ heldIn h ⌝ }
-{
-    match h {
-        Holder::Manager => 0,
-        Holder::Activity(a) => a,
-    }
-}
-
-// Does a holder hinder a wait: in R, at ether, or standing with no conflicting codel executing?
-fn act_hinders(rows: &[u32], index: &[u32], busy: &[usize], y: Act) -> bool
+// 16 of a task whose holder is an activity: is it in R, at ether, or standing with no conflicting codel executing?
+pub fn act_hinders(rows: &[u32], index: &[u32], busy: &[usize], y: Act) -> bool
     requires { ⌜ Prepared (now rows) (now index) × T (known (tableIn (now rows) (now index)) (y .place)) × (tableIn (now rows) (now index) .nacts ≤ length (now busy)) ⌝ }
     ensures { λ r. ⌜ r ≡ actHinders (tableIn (now (rows .entry)) (now (index .entry))) (now (busy .entry)) y ⌝ }
 {
@@ -192,36 +191,8 @@ fn act_hinders(rows: &[u32], index: &[u32], busy: &[usize], y: Act) -> bool
     }
 }
 
-fn held_hinders(rows: &[u32], index: &[u32], busy: &[usize], h: Holder, y: Act) -> bool
-    requires { ⌜ Prepared (now rows) (now index) × T (known (tableIn (now rows) (now index)) (y .place)) × (tableIn (now rows) (now index) .nacts ≤ length (now busy)) ⌝ }
-    ensures { λ r. ⌜ r ≡ heldHinders (tableIn (now (rows .entry)) (now (index .entry))) (now (busy .entry)) h y ⌝ }
-{
-    match h {
-        Holder::Manager => false,
-        Holder::Activity(_) => act_hinders(rows, index, busy, y),
-    }
-}
-
-// 16 of one task: waiting with the signal set, managing with the manager holding, or its holder.
-pub fn hinders(rows: &[u32], index: &[u32], busy: &[usize], x: Task, y: Act) -> bool
-    requires { ⌜ Prepared (now rows) (now index) × T (known (tableIn (now rows) (now index)) (y .place)) × (tableIn (now rows) (now index) .nacts ≤ length (now busy)) ⌝ }
-    ensures { λ r. ⌜ r ≡ hindersBy (tableIn (now (rows .entry)) (now (index .entry))) (now (busy .entry)) x y ⌝ }
-{
-    let h = x.holder;
-    if x.managing {
-        if rules::is_manager(h) {
-            return true;
-        }
-        return held_hinders(rows, index, busy, h, y);
-    }
-    if x.signal {
-        return true;
-    }
-    held_hinders(rows, index, busy, h, y)
-}
-
-// Does an executing clock stay within its codel's limit?
-fn act_room(rows: &[u32], index: &[u32], d: u64, y: Act) -> bool
+// 17 of a holder: does its clock, where it executes, stay within its codel's limit?
+pub fn act_room(rows: &[u32], index: &[u32], d: u64, y: Act) -> bool
     requires { ⌜ Prepared (now rows) (now index) × T (known (tableIn (now rows) (now index)) (y .place)) × (y .clock ≤ mostTicks) × (d ≤ mostTicks) ⌝ }
     ensures { λ r. ⌜ r ≡ actRoom (tableIn (now (rows .entry)) (now (index .entry))) d y ⌝ }
 {
@@ -235,19 +206,12 @@ fn act_room(rows: &[u32], index: &[u32], d: u64, y: Act) -> bool
     }
 }
 
-// 17 of one task: its timer within its period, and its holder's clock within the limit.
-pub fn has_room(rows: &[u32], index: &[u32], d: u64, t: usize, x: Task, y: Act) -> bool
-    requires { ⌜ Prepared (now rows) (now index) × (t < tableIn (now rows) (now index) .ntasks) × T (known (tableIn (now rows) (now index)) (y .place)) × (y .clock ≤ mostTicks) × (x .timer ≤ mostTicks) × (d ≤ mostTicks) ⌝ }
-    ensures { λ r. ⌜ r ≡ roomBy (tableIn (now (rows .entry)) (now (index .entry))) d t x y ⌝ }
+// 17 of a task: does its timer stay within its period?
+pub fn timer_room(rows: &[u32], index: &[u32], d: u64, t: usize, timer: u64) -> bool
+    requires { ⌜ Prepared (now rows) (now index) × (t < tableIn (now rows) (now index) .ntasks) × (timer ≤ mostTicks) × (d ≤ mostTicks) ⌝ }
+    ensures { λ r. ⌜ r ≡ timerRoom (tableIn (now (rows .entry)) (now (index .entry))) d t timer ⌝ }
 {
-    if prepared::period_of(rows, index, t) < x.timer + d {
-        return false;
-    }
-    let h = x.holder;
-    match h {
-        Holder::Manager => true,
-        Holder::Activity(_) => act_room(rows, index, d, y),
-    }
+    timer + d <= prepared::period_of(rows, index, t)
 }
 
 // The number of a wait that no task hinders: 17 unless all have room, 18 where it would pass the ceiling, 0 where it is accepted.

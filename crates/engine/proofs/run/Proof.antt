@@ -7,15 +7,16 @@ use denote.Ref.{now}
 use borrow.Author.Needs.{needs}
 use lib.ListN.{length}
 use Rattle.text.proofs.Turns.{part-starts, part-ends}
+use Rattle.model.specs.Rules.{putTask}
 use Rattle.prepared.specs.Prepared.{tableIn}
 use Rattle.waits.proofs.Facts.{place-known, timer-fits, clock-fits}
-use Rattle.waits.proofs.Holders.{rows-long, wait-range, ticks-fit, task-fits, held-fits, Asked, busy-long as asked-long, wait-hindered, asked-more, wait-numbered}
+use Rattle.waits.proofs.Holders.{rows-long, wait-range, ticks-fit, task-fits, holder-fits, Asked, busy-long as asked-long, manager-stops, manager-goes, activity-stops, activity-goes, wait-numbered}
 use Rattle.engine.specs.Tallies.{Roomy}
-use Rattle.engine.proofs.Runs.{Plays, run-starts, run-ends, run-bad, busy-sized, listed-sized, Scene, Turn, turn-is, newline-inside, less-left, room-for-one, turn-open, turn-dropped, turn-kept}
-use Rattle.engine.proofs.Waiting.{Ages, ages-none, date-fits, timer-small, ages-manager, holder-fits, clock-small, ages-activity, Waits, turn-waits, asks-none, wait-stops, wait-on}
+use Rattle.engine.proofs.Runs.{Plays, run-starts, run-ends, run-bad, busy-sized, listed-sized, Scene, Turn, Goes, turn-is, newline-inside, less-left, room-for-one, turn-passed, turn-kept}
+use Rattle.engine.proofs.Waiting.{Ages, ages-none, date-fits, timer-small, ages-manager, ager-fits, clock-small, ages-activity, Waits, turn-waits, asks-none, wait-stops, wait-on}
 use Rattle.engine.proofs.Naming.{Names, rows-missing, turn-names, task-cell, missed-small, cycle-small, opened-before, act-cell, place-there, busy-long, listed-long}
 use Rattle.engine.proofs.Managing.{Lists, listed-fits, lists-more, Manages, turn-manages, managed-there, sm-stops, lists-none, sm-on}
-use Rattle.engine.proofs.Stepping.{Stored, Steps, turn-steps, step-stops, step-goes}
+use Rattle.engine.proofs.Stepping.{Others, turn-others, TaskSteps, turn-task, task-stops, task-goes, Steps, turn-act, act-stops, act-goes}
 use Rattle.engine.proofs.run.Statement.{statement}
 use Rattle.engine.proofs.run.Tie as tie
 
@@ -92,7 +93,7 @@ waits :
 waits c = search (turn-waits, turn)
 
 names :
-    (c : tie.Else5 Inv-loop2 μ-loop2 Inv-loop3 μ-loop3 Inv-loop4 μ-loop4 Inv-loop μ-loop) →
+    (c : tie.Else6 Inv-loop2 μ-loop2 Inv-loop3 μ-loop3 Inv-loop4 μ-loop4 Inv-loop μ-loop) →
     Names (scene (c .before .before .before .before))
 names c = search (turn-names, turn)
 
@@ -101,37 +102,35 @@ task-row :
     c .task-in .result < 16
 task-row c = task-cell (names (c .before)) (c .task-in .ensures)
 
-act-row :
-    (c : tie.After-act-in Inv-loop2 μ-loop2 Inv-loop3 μ-loop3 Inv-loop4 μ-loop4 Inv-loop μ-loop) →
-    c .act-in .result < 64
-act-row c = act-cell (names (c .before .before .before .before .before)) (c .act-in .ensures)
-
 manages :
     (c : tie.After-sm-refusal Inv-loop2 μ-loop2 Inv-loop3 μ-loop3 Inv-loop4 μ-loop4 Inv-loop μ-loop) →
     Manages (scene (c .before .before .before .before .before .before .before .before .before)) (c .before .before .before .before .task-in .result) (c .sm-refusal .result)
 manages c = search (turn-manages, names)
 
-steps :
-    (c : tie.After-local-step Inv-loop2 μ-loop2 Inv-loop3 μ-loop3 Inv-loop4 μ-loop4 Inv-loop μ-loop) →
-    Steps
-    (scene (c .before .before .before .before .before .before .before .before .before .before .before .before .before .before))
-    (c .before .before .before .before .before .before .before .before .before .task-in .result)
-    (c .before .before .before .before .before .act-in .result)
-    (c .local-step .result)
-steps c = search (turn-steps, names)
+others :
+    (c : tie.Else7 Inv-loop2 μ-loop2 Inv-loop3 μ-loop3 Inv-loop4 μ-loop4 Inv-loop μ-loop) →
+    Others (scene (c .before .before .before .before .before .before .before .before))
+others c = search (turn-others (names (c .before .before .before .before)))
 
-goes :
+of-task :
+    (c : tie.After-task-step Inv-loop2 μ-loop2 Inv-loop3 μ-loop3 Inv-loop4 μ-loop4 Inv-loop μ-loop) →
+    TaskSteps (scene (c .before .before .before .before .before .before .before .before .before .before .before .before .before)) (c .before .before .before .before .before .before .before .before .task-in .result) (c .task-step .result)
+of-task c = search (turn-task (others (c .before .before .before .before .before)))
+
+closes :
     (c : tie.After-after-step Inv-loop2 μ-loop2 Inv-loop3 μ-loop3 Inv-loop4 μ-loop4 Inv-loop μ-loop) →
-    Stored
-    (scene (c .before .before .before .before .before .before .before .before .before .before .before .before .before .before .before .before .before .before .before .before .before))
-    (c .before .before .before .before .before .before .before .before .before .before .before .before .before .before .before .before .task-in .result)
-    (c .before .before .before .before .before .before .before .before .before .before .before .before .act-in .result)
-    (c .before .before .before .before .before .before .before .local-step .result)
-    (c .before .before .before .busy-of .result)
-    (c .before .before .listed-of2 .result)
-    (c .after-step .result)
-    (c .before .ruling-of .result)
-goes c = search (step-goes, steps)
+    Goes (scene (c .before .before .before .before .before .before .before .before .before .before .before .before .before .before .before .before .before)) (putTask (c .before .before .before .before .before .before .before .before .before .before .before .before .before .before .before .before .before .before .before .before .before .before .before .loop .s) (c .before .before .before .before .before .before .before .before .before .before .before .before .task-in .result) (c .before .before .before .before .task-step .result .task)) (c .before .before .before .before .before .before .before .before .before .before .before .before .before .before .before .before .before .before .before .before .before .before .before .loop .busy) (c .before .before .before .before .before .before .before .before .before .before .before .before .before .before .before .before .before .before .before .before .before .before .before .loop .listed) (c .after-step .result) (c .before .ruling-of .result)
+closes c = search (task-goes (of-task (c .before .before .before .before)))
+
+act-row :
+    (c : tie.After-act-in Inv-loop2 μ-loop2 Inv-loop3 μ-loop3 Inv-loop4 μ-loop4 Inv-loop μ-loop) →
+    c .act-in .result < 64
+act-row c = act-cell (names (c .before .before .before .before .before .before .before)) (c .act-in .ensures)
+
+of-act :
+    (c : tie.After-local-step Inv-loop2 μ-loop2 Inv-loop3 μ-loop3 Inv-loop4 μ-loop4 Inv-loop μ-loop) →
+    Steps (scene (c .before .before .before .before .before .before .before .before .before .before .before .before .before .before .before)) (c .before .before .before .before .before .before .before .before .before .before .task-in .result) (c .before .before .before .before .act-in .result) (c .local-step .result)
+of-act c = search (turn-act (others (c .before .before .before .before .before .before .before)))
 
 tasks-requires : tie.Need-tasks-requires Inv-loop2 μ-loop2 Inv-loop3 μ-loop3 Inv-loop4 μ-loop4 Inv-loop μ-loop
 tasks-requires c κs = search needs
@@ -181,29 +180,8 @@ mul-x c = search (needs, task-fits)
 element-copy-out-x : tie.Need-element-copy-out-x Inv-loop2 μ-loop2 Inv-loop3 μ-loop3 Inv-loop4 μ-loop4 Inv-loop μ-loop
 element-copy-out-x c = search task-fits
 
-held-in-requires : tie.Need-held-in-requires Inv-loop2 μ-loop2 Inv-loop3 μ-loop3 Inv-loop4 μ-loop4 Inv-loop μ-loop
-held-in-requires c κs = search needs
-
-mul-y : tie.Need-mul-y Inv-loop2 μ-loop2 Inv-loop3 μ-loop3 Inv-loop4 μ-loop4 Inv-loop μ-loop
-mul-y c = omega (arith, held-fits (c .before .before .before .loop2 .inv .asks) (c .before .before .loop2-test .taken) (c .held-in .ensures))
-
-element-copy-out-y : tie.Need-element-copy-out-y Inv-loop2 μ-loop2 Inv-loop3 μ-loop3 Inv-loop4 μ-loop4 Inv-loop μ-loop
-element-copy-out-y c = search held-fits
-
-slice-aggregate-hinders : tie.Need-slice-aggregate-hinders Inv-loop2 μ-loop2 Inv-loop3 μ-loop3 Inv-loop4 μ-loop4 Inv-loop μ-loop
-slice-aggregate-hinders c = search busy-sized
-
-hinders-requires : tie.Need-hinders-requires Inv-loop2 μ-loop2 Inv-loop3 μ-loop3 Inv-loop4 μ-loop4 Inv-loop μ-loop
-hinders-requires c κs = (search needs, search place-known, asked-long (c .before .before .before .before .before .loop2 .inv))
-
-left-at-requires-3 : tie.Need-left-at-requires-3 Inv-loop2 μ-loop2 Inv-loop3 μ-loop3 Inv-loop4 μ-loop4 Inv-loop μ-loop
-left-at-requires-3 c κs = search needs
-
-returns-3 : tie.Need-returns-3 Inv-loop2 μ-loop2 Inv-loop3 μ-loop3 Inv-loop4 μ-loop4 Inv-loop μ-loop
-returns-3 c = search (wait-stops (waits (c .before .before .before .before .before .before .before .before .before .before .before)) 16 (λ z. omega arith), wait-hindered)
-
-has-room-requires : tie.Need-has-room-requires Inv-loop2 μ-loop2 Inv-loop3 μ-loop3 Inv-loop4 μ-loop4 Inv-loop μ-loop
-has-room-requires c κs = (search needs, omega arith, search place-known, search clock-fits, search timer-fits, search ticks-fit)
+timer-room-requires : tie.Need-timer-room-requires Inv-loop2 μ-loop2 Inv-loop3 μ-loop3 Inv-loop4 μ-loop4 Inv-loop μ-loop
+timer-room-requires c κs = (search needs, omega (arith, c .before .before .loop2 .inv .asks .all, c .before .loop2-test .taken), search timer-fits, search ticks-fit)
 
 both-requires : tie.Need-both-requires Inv-loop2 μ-loop2 Inv-loop3 μ-loop3 Inv-loop4 μ-loop4 Inv-loop μ-loop
 both-requires c κs = search needs
@@ -211,20 +189,65 @@ both-requires c κs = search needs
 add-k : tie.Need-add-k Inv-loop2 μ-loop2 Inv-loop3 μ-loop3 Inv-loop4 μ-loop4 Inv-loop μ-loop
 add-k c = search (needs, task-fits)
 
+enum-told-2 : tie.Need-enum-told-2 Inv-loop2 μ-loop2 Inv-loop3 μ-loop3 Inv-loop4 μ-loop4 Inv-loop μ-loop
+enum-told-2 c = search needs
+
+either-requires : tie.Need-either-requires Inv-loop2 μ-loop2 Inv-loop3 μ-loop3 Inv-loop4 μ-loop4 Inv-loop μ-loop
+either-requires c κs = search needs
+
+left-at-requires-3 : tie.Need-left-at-requires-3 Inv-loop2 μ-loop2 Inv-loop3 μ-loop3 Inv-loop4 μ-loop4 Inv-loop μ-loop
+left-at-requires-3 c κs = search needs
+
+returns-3 : tie.Need-returns-3 Inv-loop2 μ-loop2 Inv-loop3 μ-loop3 Inv-loop4 μ-loop4 Inv-loop μ-loop
+returns-3 c = search (wait-stops (waits (c .before .before .before .before .before .before .before .before .before .before .before .before)) 16 (λ z. omega arith), manager-stops)
+
 loop2-less : tie.Need-loop2-less Inv-loop2 μ-loop2 Inv-loop3 μ-loop3 Inv-loop4 μ-loop4 Inv-loop μ-loop
 loop2-less c = search needs
 
 loop2-again : tie.Need-loop2-again Inv-loop2 μ-loop2 Inv-loop3 μ-loop3 Inv-loop4 μ-loop4 Inv-loop μ-loop
-loop2-again c = asked-more (c .before .before .before .before .before .before .before .before .before .loop2 .inv) (c .before .before .before .before .before .before .before .before .loop2-test .taken) _ (c .before .before .before .before .before .before .held-in .ensures) _ (c .before .before .before .hinders .ensures) (c .before .before .if3 .left) _ (c .before .has-room .ensures) _ (c .both .ensures)
+loop2-again c = manager-goes (c .before .before .before .before .before .before .before .before .loop2 .inv) (c .before .before .before .before .before .before .before .loop2-test .taken) (c .before .before .before .before .before .timer-room .ensures) (c .before .before .before .before .both .ensures) (c .before .before .enum-told2 .given .1) (c .before .either .ensures) (c .if3 .left)
 
-wait-number-requires : tie.Need-wait-number-requires Inv-loop2 μ-loop2 Inv-loop3 μ-loop3 Inv-loop4 μ-loop4 Inv-loop μ-loop
-wait-number-requires c κs = (omega (arith, c .before .loop2 .inv .asks .sound .date), search ticks-fit)
+enum-known-h : tie.Need-enum-known-h Inv-loop2 μ-loop2 Inv-loop3 μ-loop3 Inv-loop4 μ-loop4 Inv-loop μ-loop
+enum-known-h c = search needs
+
+mul-y : tie.Need-mul-y Inv-loop2 μ-loop2 Inv-loop3 μ-loop3 Inv-loop4 μ-loop4 Inv-loop μ-loop
+mul-y c = omega (arith, holder-fits (c .before .before .before .before .before .before .before .loop2 .inv .asks) (c .before .before .before .before .before .before .loop2-test .taken) (c .before .h .given .1))
+
+element-copy-out-y : tie.Need-element-copy-out-y Inv-loop2 μ-loop2 Inv-loop3 μ-loop3 Inv-loop4 μ-loop4 Inv-loop μ-loop
+element-copy-out-y c = search holder-fits
+
+slice-aggregate-act-hinders : tie.Need-slice-aggregate-act-hinders Inv-loop2 μ-loop2 Inv-loop3 μ-loop3 Inv-loop4 μ-loop4 Inv-loop μ-loop
+slice-aggregate-act-hinders c = search busy-sized
+
+act-hinders-requires : tie.Need-act-hinders-requires Inv-loop2 μ-loop2 Inv-loop3 μ-loop3 Inv-loop4 μ-loop4 Inv-loop μ-loop
+act-hinders-requires c κs = (waits (c .before .before .before .before .before .before .before .before .before .before .before .before) .turn .prepared, search place-known, asked-long (c .before .before .before .before .before .before .before .before .before .loop2 .inv))
 
 left-at-requires-4 : tie.Need-left-at-requires-4 Inv-loop2 μ-loop2 Inv-loop3 μ-loop3 Inv-loop4 μ-loop4 Inv-loop μ-loop
 left-at-requires-4 c κs = search needs
 
 returns-4 : tie.Need-returns-4 Inv-loop2 μ-loop2 Inv-loop3 μ-loop3 Inv-loop4 μ-loop4 Inv-loop μ-loop
-returns-4 c = search (wait-stops (waits (c .before .before .before .before .before .before .before)), wait-numbered)
+returns-4 c = search (wait-stops (waits (c .before .before .before .before .before .before .before .before .before .before .before .before .before .before .before)) 16 (λ z. omega arith), activity-stops)
+
+act-room-requires : tie.Need-act-room-requires Inv-loop2 μ-loop2 Inv-loop3 μ-loop3 Inv-loop4 μ-loop4 Inv-loop μ-loop
+act-room-requires c κs = (waits (c .before .before .before .before .before .before .before .before .before .before .before .before .before .before) .turn .prepared, search place-known, search clock-fits, search ticks-fit)
+
+both-requires-2 : tie.Need-both-requires-2 Inv-loop2 μ-loop2 Inv-loop3 μ-loop3 Inv-loop4 μ-loop4 Inv-loop μ-loop
+both-requires-2 c κs = search needs
+
+loop2-less-2 : tie.Need-loop2-less-2 Inv-loop2 μ-loop2 Inv-loop3 μ-loop3 Inv-loop4 μ-loop4 Inv-loop μ-loop
+loop2-less-2 c = search needs
+
+loop2-again-2 : tie.Need-loop2-again-2 Inv-loop2 μ-loop2 Inv-loop3 μ-loop3 Inv-loop4 μ-loop4 Inv-loop μ-loop
+loop2-again-2 c = activity-goes (c .before .before .before .before .before .before .before .before .before .before .before .before .before .loop2 .inv) (c .before .before .before .before .before .before .before .before .before .before .before .before .loop2-test .taken) (c .before .before .before .before .before .before .before .before .before .before .timer-room .ensures) (c .before .before .before .before .before .before .before .before .before .both .ensures) (c .before .before .before .before .before .before .before .h .given .1) (c .before .before .before .act-hinders .ensures) (c .before .before .if4 .left) (c .before .act-room .ensures) (c .both2 .ensures)
+
+wait-number-requires : tie.Need-wait-number-requires Inv-loop2 μ-loop2 Inv-loop3 μ-loop3 Inv-loop4 μ-loop4 Inv-loop μ-loop
+wait-number-requires c κs = (omega (arith, c .before .loop2 .inv .asks .sound .date), search ticks-fit)
+
+left-at-requires-5 : tie.Need-left-at-requires-5 Inv-loop2 μ-loop2 Inv-loop3 μ-loop3 Inv-loop4 μ-loop4 Inv-loop μ-loop
+left-at-requires-5 c κs = search needs
+
+returns-5 : tie.Need-returns-5 Inv-loop2 μ-loop2 Inv-loop3 μ-loop3 Inv-loop4 μ-loop4 Inv-loop μ-loop
+returns-5 c = search (wait-stops (waits (c .before .before .before .before .before .before .before)), wait-numbered)
 
 loop3-holds : tie.Need-loop3-holds Inv-loop2 μ-loop2 Inv-loop3 μ-loop3 Inv-loop4 μ-loop4 Inv-loop μ-loop
 loop3-holds c = search ages-none
@@ -247,8 +270,8 @@ way-write-given-s c = search task-fits
 add-m : tie.Need-add-m Inv-loop2 μ-loop2 Inv-loop3 μ-loop3 Inv-loop4 μ-loop4 Inv-loop μ-loop
 add-m c = search (needs, task-fits)
 
-enum-told-2 : tie.Need-enum-told-2 Inv-loop2 μ-loop2 Inv-loop3 μ-loop3 Inv-loop4 μ-loop4 Inv-loop μ-loop
-enum-told-2 c = search needs
+enum-told-3 : tie.Need-enum-told-3 Inv-loop2 μ-loop2 Inv-loop3 μ-loop3 Inv-loop4 μ-loop4 Inv-loop μ-loop
+enum-told-3 c = search needs
 
 loop3-less : tie.Need-loop3-less Inv-loop2 μ-loop2 Inv-loop3 μ-loop3 Inv-loop4 μ-loop4 Inv-loop μ-loop
 loop3-less c = search needs
@@ -256,23 +279,23 @@ loop3-less c = search needs
 loop3-again : tie.Need-loop3-again Inv-loop2 μ-loop2 Inv-loop3 μ-loop3 Inv-loop4 μ-loop4 Inv-loop μ-loop
 loop3-again c = search ages-manager
 
-enum-known-h : tie.Need-enum-known-h Inv-loop2 μ-loop2 Inv-loop3 μ-loop3 Inv-loop4 μ-loop4 Inv-loop μ-loop
-enum-known-h c = search needs
+enum-known-h-2 : tie.Need-enum-known-h-2 Inv-loop2 μ-loop2 Inv-loop3 μ-loop3 Inv-loop4 μ-loop4 Inv-loop μ-loop
+enum-known-h-2 c = search needs
 
 mul-y-2 : tie.Need-mul-y-2 Inv-loop2 μ-loop2 Inv-loop3 μ-loop3 Inv-loop4 μ-loop4 Inv-loop μ-loop
-mul-y-2 c = omega (arith, holder-fits (c .before .before .before .before .before .before .before .loop3 .inv) (c .before .before .before .before .before .before .loop3-test .taken) _ (c .before .h .given .1))
+mul-y-2 c = omega (arith, ager-fits (c .before .before .before .before .before .before .before .loop3 .inv) (c .before .before .before .before .before .before .loop3-test .taken) _ (c .before .h2 .given .1))
 
 element-copy-out-y-2 : tie.Need-element-copy-out-y-2 Inv-loop2 μ-loop2 Inv-loop3 μ-loop3 Inv-loop4 μ-loop4 Inv-loop μ-loop
-element-copy-out-y-2 c = search holder-fits
+element-copy-out-y-2 c = search ager-fits
 
 older-clock-requires : tie.Need-older-clock-requires Inv-loop2 μ-loop2 Inv-loop3 μ-loop3 Inv-loop4 μ-loop4 Inv-loop μ-loop
 older-clock-requires c κs = (search clock-small, search ticks-fit)
 
 mul-s-2 : tie.Need-mul-s-2 Inv-loop2 μ-loop2 Inv-loop3 μ-loop3 Inv-loop4 μ-loop4 Inv-loop μ-loop
-mul-s-2 c = omega (arith, holder-fits (c .before .before .before .before .before .before .before .before .before .loop3 .inv) (c .before .before .before .before .before .before .before .before .loop3-test .taken) _ (c .before .before .before .h .given .1))
+mul-s-2 c = omega (arith, ager-fits (c .before .before .before .before .before .before .before .before .before .loop3 .inv) (c .before .before .before .before .before .before .before .before .loop3-test .taken) _ (c .before .before .before .h2 .given .1))
 
 way-write-given-s-2 : tie.Need-way-write-given-s-2 Inv-loop2 μ-loop2 Inv-loop3 μ-loop3 Inv-loop4 μ-loop4 Inv-loop μ-loop
-way-write-given-s-2 c = search holder-fits
+way-write-given-s-2 c = search ager-fits
 
 loop3-less-2 : tie.Need-loop3-less-2 Inv-loop2 μ-loop2 Inv-loop3 μ-loop3 Inv-loop4 μ-loop4 Inv-loop μ-loop
 loop3-less-2 c = search needs
@@ -298,11 +321,11 @@ loop-again c = search (wait-on (waits (c .before .before .before .before .before
 rows-exist-requires : tie.Need-rows-exist-requires Inv-loop2 μ-loop2 Inv-loop3 μ-loop3 Inv-loop4 μ-loop4 Inv-loop μ-loop
 rows-exist-requires c κs = search needs
 
-left-at-requires-5 : tie.Need-left-at-requires-5 Inv-loop2 μ-loop2 Inv-loop3 μ-loop3 Inv-loop4 μ-loop4 Inv-loop μ-loop
-left-at-requires-5 c κs = search needs
+left-at-requires-6 : tie.Need-left-at-requires-6 Inv-loop2 μ-loop2 Inv-loop3 μ-loop3 Inv-loop4 μ-loop4 Inv-loop μ-loop
+left-at-requires-6 c κs = search needs
 
-returns-5 : tie.Need-returns-5 Inv-loop2 μ-loop2 Inv-loop3 μ-loop3 Inv-loop4 μ-loop4 Inv-loop μ-loop
-returns-5 c = search (rows-missing (turn (c .before .before .before .before .before)))
+returns-6 : tie.Need-returns-6 Inv-loop2 μ-loop2 Inv-loop3 μ-loop3 Inv-loop4 μ-loop4 Inv-loop μ-loop
+returns-6 c = search (rows-missing (turn (c .before .before .before .before .before)))
 
 task-in-requires : tie.Need-task-in-requires Inv-loop2 μ-loop2 Inv-loop3 μ-loop3 Inv-loop4 μ-loop4 Inv-loop μ-loop
 task-in-requires c κs = search (names c)
@@ -319,11 +342,11 @@ is-sm-requires c κs = search needs
 sm-refusal-requires : tie.Need-sm-refusal-requires Inv-loop2 μ-loop2 Inv-loop3 μ-loop3 Inv-loop4 μ-loop4 Inv-loop μ-loop
 sm-refusal-requires c κs = search (names (c .before .before .before .before))
 
-left-at-requires-6 : tie.Need-left-at-requires-6 Inv-loop2 μ-loop2 Inv-loop3 μ-loop3 Inv-loop4 μ-loop4 Inv-loop μ-loop
-left-at-requires-6 c κs = search needs
+left-at-requires-7 : tie.Need-left-at-requires-7 Inv-loop2 μ-loop2 Inv-loop3 μ-loop3 Inv-loop4 μ-loop4 Inv-loop μ-loop
+left-at-requires-7 c κs = search needs
 
-returns-6 : tie.Need-returns-6 Inv-loop2 μ-loop2 Inv-loop3 μ-loop3 Inv-loop4 μ-loop4 Inv-loop μ-loop
-returns-6 c = search (sm-stops (manages (c .before .before)))
+returns-7 : tie.Need-returns-7 Inv-loop2 μ-loop2 Inv-loop3 μ-loop3 Inv-loop4 μ-loop4 Inv-loop μ-loop
+returns-7 c = search (sm-stops (manages (c .before .before)))
 
 acts-end-requires : tie.Need-acts-end-requires Inv-loop2 μ-loop2 Inv-loop3 μ-loop3 Inv-loop4 μ-loop4 Inv-loop μ-loop
 acts-end-requires c κs = let M = manages (c .before) in (M .names .turn .prepared, managed-there M)
@@ -388,6 +411,54 @@ loop-less-2 c = search falls
 loop-again-2 : tie.Need-loop-again-2 Inv-loop2 μ-loop2 Inv-loop3 μ-loop3 Inv-loop4 μ-loop4 Inv-loop μ-loop
 loop-again-2 c = search (sm-on (manages (c .before .before .before .before .before .before .before)))
 
+is-of-task-requires : tie.Need-is-of-task-requires Inv-loop2 μ-loop2 Inv-loop3 μ-loop3 Inv-loop4 μ-loop4 Inv-loop μ-loop
+is-of-task-requires c κs = search needs
+
+slice-aggregate-is-empty-for : tie.Need-slice-aggregate-is-empty-for Inv-loop2 μ-loop2 Inv-loop3 μ-loop3 Inv-loop4 μ-loop4 Inv-loop μ-loop
+slice-aggregate-is-empty-for c = search listed-sized
+
+is-empty-for-requires : tie.Need-is-empty-for-requires Inv-loop2 μ-loop2 Inv-loop3 μ-loop3 Inv-loop4 μ-loop4 Inv-loop μ-loop
+is-empty-for-requires c κs = let N = names (c .before .before .before .before .before .before .before) in (N .turn .prepared, N .named, listed-long N)
+
+task-step-requires : tie.Need-task-step-requires Inv-loop2 μ-loop2 Inv-loop3 μ-loop3 Inv-loop4 μ-loop4 Inv-loop μ-loop
+task-step-requires c κs = let N = names (c .before .before .before .before .before .before .before .before) in (N .turn .prepared, N .named, search (missed-small N))
+
+left-at-requires-8 : tie.Need-left-at-requires-8 Inv-loop2 μ-loop2 Inv-loop3 μ-loop3 Inv-loop4 μ-loop4 Inv-loop μ-loop
+left-at-requires-8 c κs = search needs
+
+returns-8 : tie.Need-returns-8 Inv-loop2 μ-loop2 Inv-loop3 μ-loop3 Inv-loop4 μ-loop4 Inv-loop μ-loop
+returns-8 c = search (task-stops (of-task (c .before .before)))
+
+mul-u-2 : tie.Need-mul-u-2 Inv-loop2 μ-loop2 Inv-loop3 μ-loop3 Inv-loop4 μ-loop4 Inv-loop μ-loop
+mul-u-2 c = omega (arith, task-row (c .before .before .before .before .before .before .before .before .before .before))
+
+element-set-from-u-2 : tie.Need-element-set-from-u-2 Inv-loop2 μ-loop2 Inv-loop3 μ-loop3 Inv-loop4 μ-loop4 Inv-loop μ-loop
+element-set-from-u-2 c = search task-row
+
+ruling-of-requires : tie.Need-ruling-of-requires Inv-loop2 μ-loop2 Inv-loop3 μ-loop3 Inv-loop4 μ-loop4 Inv-loop μ-loop
+ruling-of-requires c κs = let N = names (c .before .before .before .before .before .before .before .before .before .before .before) in (N .turn .prepared, N .named, search (opened-before N))
+
+after-step-requires : tie.Need-after-step-requires Inv-loop2 μ-loop2 Inv-loop3 μ-loop3 Inv-loop4 μ-loop4 Inv-loop μ-loop
+after-step-requires c κs = search counts
+
+add-at-3 : tie.Need-add-at-3 Inv-loop2 μ-loop2 Inv-loop3 μ-loop3 Inv-loop4 μ-loop4 Inv-loop μ-loop
+add-at-3 c = record { fits = search behind-fits }
+
+enum-known-w : tie.Need-enum-known-w Inv-loop2 μ-loop2 Inv-loop3 μ-loop3 Inv-loop4 μ-loop4 Inv-loop μ-loop
+enum-known-w c = search needs
+
+loop-less-3 : tie.Need-loop-less-3 Inv-loop2 μ-loop2 Inv-loop3 μ-loop3 Inv-loop4 μ-loop4 Inv-loop μ-loop
+loop-less-3 c = search falls
+
+loop-again-3 : tie.Need-loop-again-3 Inv-loop2 μ-loop2 Inv-loop3 μ-loop3 Inv-loop4 μ-loop4 Inv-loop μ-loop
+loop-again-3 c = search (turn-passed (closes (c .before)))
+
+left-at-requires-9 : tie.Need-left-at-requires-9 Inv-loop2 μ-loop2 Inv-loop3 μ-loop3 Inv-loop4 μ-loop4 Inv-loop μ-loop
+left-at-requires-9 c κs = search needs
+
+returns-9 : tie.Need-returns-9 Inv-loop2 μ-loop2 Inv-loop3 μ-loop3 Inv-loop4 μ-loop4 Inv-loop μ-loop
+returns-9 c = search (turn-kept (closes (c .before .before .before .before)))
+
 act-in-requires : tie.Need-act-in-requires Inv-loop2 μ-loop2 Inv-loop3 μ-loop3 Inv-loop4 μ-loop4 Inv-loop μ-loop
 act-in-requires c κs = search needs
 
@@ -397,32 +468,29 @@ mul-y-4 c = omega (arith, act-row c)
 element-copy-out-y-4 : tie.Need-element-copy-out-y-4 Inv-loop2 μ-loop2 Inv-loop3 μ-loop3 Inv-loop4 μ-loop4 Inv-loop μ-loop
 element-copy-out-y-4 c = search act-row
 
-slice-aggregate-aside-of : tie.Need-slice-aggregate-aside-of Inv-loop2 μ-loop2 Inv-loop3 μ-loop3 Inv-loop4 μ-loop4 Inv-loop μ-loop
-slice-aggregate-aside-of c = search busy-sized
+slice-aggregate-is-clear-for : tie.Need-slice-aggregate-is-clear-for Inv-loop2 μ-loop2 Inv-loop3 μ-loop3 Inv-loop4 μ-loop4 Inv-loop μ-loop
+slice-aggregate-is-clear-for c = search busy-sized
 
-slice-aggregate-aside-of-2 : tie.Need-slice-aggregate-aside-of-2 Inv-loop2 μ-loop2 Inv-loop3 μ-loop3 Inv-loop4 μ-loop4 Inv-loop μ-loop
-slice-aggregate-aside-of-2 c = search listed-sized
-
-aside-of-requires : tie.Need-aside-of-requires Inv-loop2 μ-loop2 Inv-loop3 μ-loop3 Inv-loop4 μ-loop4 Inv-loop μ-loop
-aside-of-requires c κs = let N = names (c .before .before .before .before .before .before .before .before) in (N .turn .prepared, N .named, place-there N _, busy-long N, listed-long N)
+is-clear-for-requires : tie.Need-is-clear-for-requires Inv-loop2 μ-loop2 Inv-loop3 μ-loop3 Inv-loop4 μ-loop4 Inv-loop μ-loop
+is-clear-for-requires c κs = let N = names (c .before .before .before .before .before .before .before .before .before) in (N .turn .prepared, place-there N _, busy-long N)
 
 local-step-requires : tie.Need-local-step-requires Inv-loop2 μ-loop2 Inv-loop3 μ-loop3 Inv-loop4 μ-loop4 Inv-loop μ-loop
-local-step-requires c κs = let N = names (c .before .before .before .before .before .before .before .before .before) in (N .turn .prepared, N .named, place-there N _, search (missed-small N))
+local-step-requires c κs = let N = names (c .before .before .before .before .before .before .before .before .before .before) in (N .turn .prepared, N .named, place-there N _)
 
-left-at-requires-7 : tie.Need-left-at-requires-7 Inv-loop2 μ-loop2 Inv-loop3 μ-loop3 Inv-loop4 μ-loop4 Inv-loop μ-loop
-left-at-requires-7 c κs = search needs
+left-at-requires-10 : tie.Need-left-at-requires-10 Inv-loop2 μ-loop2 Inv-loop3 μ-loop3 Inv-loop4 μ-loop4 Inv-loop μ-loop
+left-at-requires-10 c κs = search needs
 
-returns-7 : tie.Need-returns-7 Inv-loop2 μ-loop2 Inv-loop3 μ-loop3 Inv-loop4 μ-loop4 Inv-loop μ-loop
-returns-7 c = search (step-stops (steps (c .before .before)))
+returns-10 : tie.Need-returns-10 Inv-loop2 μ-loop2 Inv-loop3 μ-loop3 Inv-loop4 μ-loop4 Inv-loop μ-loop
+returns-10 c = search (act-stops (of-act (c .before .before)))
 
-mul-u-2 : tie.Need-mul-u-2 Inv-loop2 μ-loop2 Inv-loop3 μ-loop3 Inv-loop4 μ-loop4 Inv-loop μ-loop
-mul-u-2 c = omega (arith, task-row (c .before .before .before .before .before .before .before .before .before .before .before .before))
+mul-u-3 : tie.Need-mul-u-3 Inv-loop2 μ-loop2 Inv-loop3 μ-loop3 Inv-loop4 μ-loop4 Inv-loop μ-loop
+mul-u-3 c = omega (arith, task-row (c .before .before .before .before .before .before .before .before .before .before .before .before .before))
 
-element-set-from-u-2 : tie.Need-element-set-from-u-2 Inv-loop2 μ-loop2 Inv-loop3 μ-loop3 Inv-loop4 μ-loop4 Inv-loop μ-loop
-element-set-from-u-2 c = search task-row
+element-set-from-u-3 : tie.Need-element-set-from-u-3 Inv-loop2 μ-loop2 Inv-loop3 μ-loop3 Inv-loop4 μ-loop4 Inv-loop μ-loop
+element-set-from-u-3 c = search task-row
 
 mul-v-2 : tie.Need-mul-v-2 Inv-loop2 μ-loop2 Inv-loop3 μ-loop3 Inv-loop4 μ-loop4 Inv-loop μ-loop
-mul-v-2 c = omega (arith, act-row (c .before .before .before .before .before .before .before .before))
+mul-v-2 c = omega (arith, act-row (c .before .before .before .before .before .before .before))
 
 element-set-from-v-2 : tie.Need-element-set-from-v-2 Inv-loop2 μ-loop2 Inv-loop3 μ-loop3 Inv-loop4 μ-loop4 Inv-loop μ-loop
 element-set-from-v-2 c = search act-row
@@ -431,7 +499,7 @@ busy-of-requires : tie.Need-busy-of-requires Inv-loop2 μ-loop2 Inv-loop3 μ-loo
 busy-of-requires c κs = search needs
 
 mul-busy : tie.Need-mul-busy Inv-loop2 μ-loop2 Inv-loop3 μ-loop3 Inv-loop4 μ-loop4 Inv-loop μ-loop
-mul-busy c = omega (arith, act-row (c .before .before .before .before .before .before .before .before .before))
+mul-busy c = omega (arith, act-row (c .before .before .before .before .before .before .before .before))
 
 array-write-busy : tie.Need-array-write-busy Inv-loop2 μ-loop2 Inv-loop3 μ-loop3 Inv-loop4 μ-loop4 Inv-loop μ-loop
 array-write-busy c = search act-row
@@ -440,52 +508,28 @@ listed-of-requires-2 : tie.Need-listed-of-requires-2 Inv-loop2 μ-loop2 Inv-loop
 listed-of-requires-2 c κs = search needs
 
 mul-listed-2 : tie.Need-mul-listed-2 Inv-loop2 μ-loop2 Inv-loop3 μ-loop3 Inv-loop4 μ-loop4 Inv-loop μ-loop
-mul-listed-2 c = omega (arith, act-row (c .before .before .before .before .before .before .before .before .before .before))
+mul-listed-2 c = omega (arith, act-row (c .before .before .before .before .before .before .before .before .before))
 
 array-write-listed-2 : tie.Need-array-write-listed-2 Inv-loop2 μ-loop2 Inv-loop3 μ-loop3 Inv-loop4 μ-loop4 Inv-loop μ-loop
 array-write-listed-2 c = search act-row
 
-ruling-of-requires : tie.Need-ruling-of-requires Inv-loop2 μ-loop2 Inv-loop3 μ-loop3 Inv-loop4 μ-loop4 Inv-loop μ-loop
-ruling-of-requires c κs = let N = names (c .before .before .before .before .before .before .before .before .before .before .before .before .before .before .before) in (N .turn .prepared, N .named, search (opened-before N))
+after-step-requires-2 : tie.Need-after-step-requires-2 Inv-loop2 μ-loop2 Inv-loop3 μ-loop3 Inv-loop4 μ-loop4 Inv-loop μ-loop
+after-step-requires-2 c κs = search counts
 
-after-step-requires : tie.Need-after-step-requires Inv-loop2 μ-loop2 Inv-loop3 μ-loop3 Inv-loop4 μ-loop4 Inv-loop μ-loop
-after-step-requires c κs = search counts
-
-add-at-3 : tie.Need-add-at-3 Inv-loop2 μ-loop2 Inv-loop3 μ-loop3 Inv-loop4 μ-loop4 Inv-loop μ-loop
-add-at-3 c = record { fits = search behind-fits }
-
-enum-told-3 : tie.Need-enum-told-3 Inv-loop2 μ-loop2 Inv-loop3 μ-loop3 Inv-loop4 μ-loop4 Inv-loop μ-loop
-enum-told-3 c = search needs
-
-loop-less-3 : tie.Need-loop-less-3 Inv-loop2 μ-loop2 Inv-loop3 μ-loop3 Inv-loop4 μ-loop4 Inv-loop μ-loop
-loop-less-3 c = search falls
-
-loop-again-3 : tie.Need-loop-again-3 Inv-loop2 μ-loop2 Inv-loop3 μ-loop3 Inv-loop4 μ-loop4 Inv-loop μ-loop
-loop-again-3 c = search (turn-open (goes (c .before .before)))
-
-enum-known-w : tie.Need-enum-known-w Inv-loop2 μ-loop2 Inv-loop3 μ-loop3 Inv-loop4 μ-loop4 Inv-loop μ-loop
-enum-known-w c = search needs
-
-left-at-requires-8 : tie.Need-left-at-requires-8 Inv-loop2 μ-loop2 Inv-loop3 μ-loop3 Inv-loop4 μ-loop4 Inv-loop μ-loop
-left-at-requires-8 c κs = search needs
-
-returns-8 : tie.Need-returns-8 Inv-loop2 μ-loop2 Inv-loop3 μ-loop3 Inv-loop4 μ-loop4 Inv-loop μ-loop
-returns-8 c = search (turn-kept (goes (c .before .before .before .before)))
-
-enum-told-4 : tie.Need-enum-told-4 Inv-loop2 μ-loop2 Inv-loop3 μ-loop3 Inv-loop4 μ-loop4 Inv-loop μ-loop
-enum-told-4 c = search needs
+add-at-4 : tie.Need-add-at-4 Inv-loop2 μ-loop2 Inv-loop3 μ-loop3 Inv-loop4 μ-loop4 Inv-loop μ-loop
+add-at-4 c = record { fits = search behind-fits }
 
 loop-less-4 : tie.Need-loop-less-4 Inv-loop2 μ-loop2 Inv-loop3 μ-loop3 Inv-loop4 μ-loop4 Inv-loop μ-loop
 loop-less-4 c = search falls
 
 loop-again-4 : tie.Need-loop-again-4 Inv-loop2 μ-loop2 Inv-loop3 μ-loop3 Inv-loop4 μ-loop4 Inv-loop μ-loop
-loop-again-4 c = search (turn-dropped (goes (c .before .before)))
+loop-again-4 c = search (act-goes (of-act (c .before .before .before .before .before .before)))
 
-left-at-requires-9 : tie.Need-left-at-requires-9 Inv-loop2 μ-loop2 Inv-loop3 μ-loop3 Inv-loop4 μ-loop4 Inv-loop μ-loop
-left-at-requires-9 c κs = search needs
+left-at-requires-11 : tie.Need-left-at-requires-11 Inv-loop2 μ-loop2 Inv-loop3 μ-loop3 Inv-loop4 μ-loop4 Inv-loop μ-loop
+left-at-requires-11 c κs = search needs
 
-returns-9 : tie.Need-returns-9 Inv-loop2 μ-loop2 Inv-loop3 μ-loop3 Inv-loop4 μ-loop4 Inv-loop μ-loop
-returns-9 c = search run-ends
+returns-11 : tie.Need-returns-11 Inv-loop2 μ-loop2 Inv-loop3 μ-loop3 Inv-loop4 μ-loop4 Inv-loop μ-loop
+returns-11 c = search run-ends
 
 pub run-spec : {M : Type 1} → statement M
 run-spec =
@@ -515,21 +559,29 @@ run-spec =
     loop2-holds
     mul-x
     element-copy-out-x
-    held-in-requires
-    mul-y
-    element-copy-out-y
-    slice-aggregate-hinders
-    hinders-requires
-    left-at-requires-3
-    returns-3
-    has-room-requires
+    timer-room-requires
     both-requires
     add-k
+    enum-told-2
+    either-requires
+    left-at-requires-3
+    returns-3
     loop2-less
     loop2-again
-    wait-number-requires
+    enum-known-h
+    mul-y
+    element-copy-out-y
+    slice-aggregate-act-hinders
+    act-hinders-requires
     left-at-requires-4
     returns-4
+    act-room-requires
+    both-requires-2
+    loop2-less-2
+    loop2-again-2
+    wait-number-requires
+    left-at-requires-5
+    returns-5
     loop3-holds
     mul-x-2
     element-copy-out-x-2
@@ -537,10 +589,10 @@ run-spec =
     mul-s
     way-write-given-s
     add-m
-    enum-told-2
+    enum-told-3
     loop3-less
     loop3-again
-    enum-known-h
+    enum-known-h-2
     mul-y-2
     element-copy-out-y-2
     older-clock-requires
@@ -554,15 +606,15 @@ run-spec =
     loop-less
     loop-again
     rows-exist-requires
-    left-at-requires-5
-    returns-5
+    left-at-requires-6
+    returns-6
     task-in-requires
     mul-x-3
     element-copy-out-x-3
     is-sm-requires
     sm-refusal-requires
-    left-at-requires-6
-    returns-6
+    left-at-requires-7
+    returns-7
     acts-end-requires
     acts-begin-requires
     loop4-holds
@@ -584,17 +636,32 @@ run-spec =
     add-at-2
     loop-less-2
     loop-again-2
+    is-of-task-requires
+    slice-aggregate-is-empty-for
+    is-empty-for-requires
+    task-step-requires
+    left-at-requires-8
+    returns-8
+    mul-u-2
+    element-set-from-u-2
+    ruling-of-requires
+    after-step-requires
+    add-at-3
+    enum-known-w
+    loop-less-3
+    loop-again-3
+    left-at-requires-9
+    returns-9
     act-in-requires
     mul-y-4
     element-copy-out-y-4
-    slice-aggregate-aside-of
-    slice-aggregate-aside-of-2
-    aside-of-requires
+    slice-aggregate-is-clear-for
+    is-clear-for-requires
     local-step-requires
-    left-at-requires-7
-    returns-7
-    mul-u-2
-    element-set-from-u-2
+    left-at-requires-10
+    returns-10
+    mul-u-3
+    element-set-from-u-3
     mul-v-2
     element-set-from-v-2
     busy-of-requires
@@ -603,17 +670,9 @@ run-spec =
     listed-of-requires-2
     mul-listed-2
     array-write-listed-2
-    ruling-of-requires
-    after-step-requires
-    add-at-3
-    enum-told-3
-    loop-less-3
-    loop-again-3
-    enum-known-w
-    left-at-requires-8
-    returns-8
-    enum-told-4
+    after-step-requires-2
+    add-at-4
     loop-less-4
     loop-again-4
-    left-at-requires-9
-    returns-9)
+    left-at-requires-11
+    returns-11)

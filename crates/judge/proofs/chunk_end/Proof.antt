@@ -1,6 +1,6 @@
 -- `chunk_end` meets its contract.
 use borrow.Author.Needs.{needs}
-use Rattle.judge.proofs.Blocks.{whole-within}
+use Rattle.judging.proofs.Cuts.{whole-within}
 use Rattle.judge.proofs.chunk_end.Statement.{statement}
 use Rattle.judge.proofs.chunk_end.Tie as tie
 

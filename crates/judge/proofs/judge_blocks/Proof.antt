@@ -5,9 +5,9 @@ use mathlib.Core.List.{[]}
 use native.Mathlib.Omega.{arith}
 use lib.ListN.{length}
 use borrow.Author.Needs.{needs}
+use Rattle.log.proofs.Turns.{part-long}
 use Rattle.prepared.specs.Prepared.{tableIn}
 use Rattle.engine.specs.Play.{Ready}
-use Rattle.judging.proofs.Cuts.{first-bytes}
 use Rattle.judging.proofs.Reporting.{fresh-start}
 use Rattle.judge.proofs.Blocks.{first-within}
 use Rattle.judge.proofs.judge_blocks.Statement.{statement}
@@ -38,7 +38,7 @@ slice-reshare-prefix-chunk-end : tie.Need-slice-reshare-prefix-chunk-end Inv-loo
 slice-reshare-prefix-chunk-end c = search needs
 
 slice-aggregate-chunk-end : tie.Need-slice-aggregate-chunk-end Inv-loop μ-loop
-slice-aggregate-chunk-end c = first-bytes _ _ (search needs)
+slice-aggregate-chunk-end c = part-long _ _ (search needs)
 
 chunk-end-requires : tie.Need-chunk-end-requires Inv-loop μ-loop
 chunk-end-requires c κs = search needs
@@ -47,7 +47,7 @@ slice-reshare-prefix-judge-turn : tie.Need-slice-reshare-prefix-judge-turn Inv-l
 slice-reshare-prefix-judge-turn c = search (first-within)
 
 slice-aggregate-judge-turn : tie.Need-slice-aggregate-judge-turn Inv-loop μ-loop
-slice-aggregate-judge-turn c = first-bytes _ _ (search (first-within))
+slice-aggregate-judge-turn c = part-long _ _ (search (first-within))
 
 judge-turn-requires : tie.Need-judge-turn-requires Inv-loop μ-loop
 judge-turn-requires c κs = search needs

@@ -1,8 +1,9 @@
 -- `main` is safe: the table ends within what was read, and it is accepted where the log is judged against it.
 use borrow.Author.Needs.{needs}
-use Rattle.judging.proofs.Cuts.{first-bytes}
+use Rattle.log.proofs.Turns.{part-long}
+use Rattle.judging.proofs.Cuts.{cut-within}
 use Rattle.judging.proofs.Reporting.{read-fine}
-use Rattle.judge.proofs.Blocks.{cut-within, first-within}
+use Rattle.judge.proofs.Blocks.{first-within}
 use Rattle.judge.proofs.main.Statement.{statement}
 use Rattle.judge.proofs.main.Tie as tie
 
@@ -25,7 +26,7 @@ array-share-prefix-block-2 : tie.Need-array-share-prefix-block-2
 array-share-prefix-block-2 c = search (first-within, cut-within)
 
 slice-aggregate-read-table : tie.Need-slice-aggregate-read-table
-slice-aggregate-read-table c = first-bytes _ _ (search (first-within, cut-within))
+slice-aggregate-read-table c = part-long _ _ (search (first-within, cut-within))
 
 read-table-requires : tie.Need-read-table-requires
 read-table-requires c κs = search needs

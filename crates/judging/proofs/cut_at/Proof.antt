@@ -1,6 +1,7 @@
 -- `cut_at` meets its contract.
 use borrow.Author.Needs.{needs}
-use Rattle.judging.proofs.Cuts.{cut-bytes, cut-short, cut-long}
+use Rattle.log.proofs.Turns.{part-long}
+use Rattle.judging.proofs.Cuts.{cut-short, cut-long}
 use Rattle.judging.proofs.cut_at.Statement.{statement}
 use Rattle.judging.proofs.cut_at.Tie as tie
 
@@ -11,7 +12,7 @@ returns : tie.Need-returns
 returns c = search (cut-short)
 
 slice-aggregate-table-end : tie.Need-slice-aggregate-table-end
-slice-aggregate-table-end c = search (cut-bytes)
+slice-aggregate-table-end c = part-long (c .before .before .before .args .s .now) _ (search needs)
 
 add-table-end : tie.Need-add-table-end
 add-table-end c = search needs

@@ -1,6 +1,7 @@
 -- `is_end` meets its contract.
 use borrow.Author.Needs.{needs}
-use Rattle.judging.proofs.Cuts.{end-short, first-bytes}
+use Rattle.log.proofs.Turns.{part-long}
+use Rattle.judging.proofs.Cuts.{end-short}
 use Rattle.judging.proofs.is_end.Statement.{statement}
 use Rattle.judging.proofs.is_end.Tie as tie
 
@@ -8,7 +9,7 @@ returns : tie.Need-returns
 returns c = search (end-short)
 
 slice-aggregate-same : tie.Need-slice-aggregate-same
-slice-aggregate-same c = search (first-bytes)
+slice-aggregate-same c = search (part-long)
 
 slice-aggregate-same-2 : tie.Need-slice-aggregate-same-2
 slice-aggregate-same-2 c = search needs

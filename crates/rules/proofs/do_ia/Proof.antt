@@ -8,14 +8,14 @@ use Rattle.rules.proofs.do_ia.Tie as tie
 is-held-requires : tie.Need-is-held-requires
 is-held-requires c κs = search needs
 
-refused-requires : tie.Need-refused-requires
-refused-requires c κs = search needs
+answer-requires : tie.Need-answer-requires
+answer-requires c κs = search needs
 
 returns : tie.Need-returns
 returns c = search answers
 
-refused-requires-2 : tie.Need-refused-requires-2
-refused-requires-2 c κs = search needs
+answer-requires-2 : tie.Need-answer-requires-2
+answer-requires-2 c κs = search needs
 
 returns-2 : tie.Need-returns-2
 returns-2 c = search answers
@@ -32,8 +32,8 @@ with-holder-requires c κs = search needs
 at-rest-requires : tie.Need-at-rest-requires
 at-rest-requires c κs = search needs
 
-refused-requires-3 : tie.Need-refused-requires-3
-refused-requires-3 c κs = search needs
+answer-requires-3 : tie.Need-answer-requires-3
+answer-requires-3 c κs = search needs
 
 enum-known-stop : tie.Need-enum-known-stop
 enum-known-stop c = search needs
@@ -44,8 +44,8 @@ out-of-r-requires c κs = search needs
 enter-requires : tie.Need-enter-requires
 enter-requires c κs = search (needs, rows)
 
-refused-requires-4 : tie.Need-refused-requires-4
-refused-requires-4 c κs = search needs
+answer-requires-4 : tie.Need-answer-requires-4
+answer-requires-4 c κs = search needs
 
 returns-3 : tie.Need-returns-3
 returns-3 c = search answers
@@ -58,18 +58,18 @@ do-ia-spec =
     tie.close
     (tie.spec
     is-held-requires
-    refused-requires
+    answer-requires
     returns
-    refused-requires-2
+    answer-requires-2
     returns-2
     stop-of-requires
     enum-told
     with-holder-requires
     at-rest-requires
-    refused-requires-3
+    answer-requires-3
     enum-known-stop
     out-of-r-requires
     enter-requires
-    refused-requires-4
+    answer-requires-4
     returns-3
     returns-4)

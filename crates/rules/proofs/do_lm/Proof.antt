@@ -4,8 +4,8 @@ use Rattle.rules.proofs.Answers.{answers}
 use Rattle.rules.proofs.do_lm.Statement.{statement}
 use Rattle.rules.proofs.do_lm.Tie as tie
 
-refused-requires : tie.Need-refused-requires
-refused-requires c κs = search needs
+answer-requires : tie.Need-answer-requires
+answer-requires c κs = search needs
 
 returns : tie.Need-returns
 returns c = search answers
@@ -13,8 +13,8 @@ returns c = search answers
 is-manager-requires : tie.Need-is-manager-requires
 is-manager-requires c κs = search needs
 
-refused-requires-2 : tie.Need-refused-requires-2
-refused-requires-2 c κs = search needs
+answer-requires-2 : tie.Need-answer-requires-2
+answer-requires-2 c κs = search needs
 
 returns-2 : tie.Need-returns-2
 returns-2 c = search answers
@@ -22,8 +22,8 @@ returns-2 c = search answers
 task-of-requires : tie.Need-task-of-requires
 task-of-requires c κs = search needs
 
-refused-requires-3 : tie.Need-refused-requires-3
-refused-requires-3 c κs = search needs
+answer-requires-3 : tie.Need-answer-requires-3
+answer-requires-3 c κs = search needs
 
 returns-3 : tie.Need-returns-3
 returns-3 c = search answers
@@ -31,8 +31,8 @@ returns-3 c = search answers
 either-requires : tie.Need-either-requires
 either-requires c κs = search needs
 
-refused-requires-4 : tie.Need-refused-requires-4
-refused-requires-4 c κs = search needs
+answer-requires-4 : tie.Need-answer-requires-4
+answer-requires-4 c κs = search needs
 
 returns-4 : tie.Need-returns-4
 returns-4 c = search answers
@@ -43,8 +43,8 @@ with-holder-requires c κs = search needs
 enter-again-requires : tie.Need-enter-again-requires
 enter-again-requires c κs = search needs
 
-refused-requires-5 : tie.Need-refused-requires-5
-refused-requires-5 c κs = search needs
+answer-requires-5 : tie.Need-answer-requires-5
+answer-requires-5 c κs = search needs
 
 returns-5 : tie.Need-returns-5
 returns-5 c = search answers
@@ -53,18 +53,18 @@ pub do-lm-spec : {M : Type 1} → statement M
 do-lm-spec =
     tie.close
     (tie.spec
-    refused-requires
+    answer-requires
     returns
     is-manager-requires
-    refused-requires-2
+    answer-requires-2
     returns-2
     task-of-requires
-    refused-requires-3
+    answer-requires-3
     returns-3
     either-requires
-    refused-requires-4
+    answer-requires-4
     returns-4
     with-holder-requires
     enter-again-requires
-    refused-requires-5
+    answer-requires-5
     returns-5)

@@ -7,8 +7,8 @@ use Rattle.rules.proofs.do_st.Tie as tie
 period-of-requires : tie.Need-period-of-requires
 period-of-requires c κs = search needs
 
-refused-requires : tie.Need-refused-requires
-refused-requires c κs = search needs
+task-answer-requires : tie.Need-task-answer-requires
+task-answer-requires c κs = search needs
 
 returns : tie.Need-returns
 returns c = search answers
@@ -16,8 +16,8 @@ returns c = search answers
 signalled-task-requires : tie.Need-signalled-task-requires
 signalled-task-requires c κs = search needs
 
-refused-requires-2 : tie.Need-refused-requires-2
-refused-requires-2 c κs = search needs
+task-answer-requires-2 : tie.Need-task-answer-requires-2
+task-answer-requires-2 c κs = search needs
 
 returns-2 : tie.Need-returns-2
 returns-2 c = search answers
@@ -27,8 +27,8 @@ do-st-spec =
     tie.close
     (tie.spec
     period-of-requires
-    refused-requires
+    task-answer-requires
     returns
     signalled-task-requires
-    refused-requires-2
+    task-answer-requires-2
     returns-2)

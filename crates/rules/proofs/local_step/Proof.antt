@@ -8,56 +8,56 @@ use Rattle.rules.proofs.local_step.Tie as tie
 enum-told : tie.Need-enum-told
 enum-told c = search needs
 
-refused-requires : tie.Need-refused-requires
-refused-requires c κs = search needs
-
-enum-known-st : tie.Need-enum-known-st
-enum-known-st c = search needs
-
-do-st-requires : tie.Need-do-st-requires
-do-st-requires c κs = search (needs, rows)
+answer-requires : tie.Need-answer-requires
+answer-requires c κs = search needs
 
 enum-told-2 : tie.Need-enum-told-2
 enum-told-2 c = search needs
 
-refused-requires-2 : tie.Need-refused-requires-2
-refused-requires-2 c κs = search needs
-
-enum-known-st-2 : tie.Need-enum-known-st-2
-enum-known-st-2 c = search needs
-
-do-lm-requires : tie.Need-do-lm-requires
-do-lm-requires c κs = search (needs, rows)
-
-enum-known-st-3 : tie.Need-enum-known-st-3
-enum-known-st-3 c = search needs
-
-do-ia-requires : tie.Need-do-ia-requires
-do-ia-requires c κs = search (needs, rows)
-
-enum-known-st-4 : tie.Need-enum-known-st-4
-enum-known-st-4 c = search needs
-
-do-ea-requires : tie.Need-do-ea-requires
-do-ea-requires c κs = search (needs, rows)
-
-enum-known-st-5 : tie.Need-enum-known-st-5
-enum-known-st-5 c = search needs
-
-do-cx-requires : tie.Need-do-cx-requires
-do-cx-requires c κs = search needs
-
-enum-known-st-6 : tie.Need-enum-known-st-6
-enum-known-st-6 c = search needs
-
-do-fa-requires : tie.Need-do-fa-requires
-do-fa-requires c κs = search (needs, rows)
+answer-requires-2 : tie.Need-answer-requires-2
+answer-requires-2 c κs = search needs
 
 enum-told-3 : tie.Need-enum-told-3
 enum-told-3 c = search needs
 
-do-fm-requires : tie.Need-do-fm-requires
-do-fm-requires c κs = search needs
+answer-requires-3 : tie.Need-answer-requires-3
+answer-requires-3 c κs = search needs
+
+enum-known-st : tie.Need-enum-known-st
+enum-known-st c = search needs
+
+do-lm-requires : tie.Need-do-lm-requires
+do-lm-requires c κs = search (needs, rows)
+
+enum-known-st-2 : tie.Need-enum-known-st-2
+enum-known-st-2 c = search needs
+
+do-ia-requires : tie.Need-do-ia-requires
+do-ia-requires c κs = search (needs, rows)
+
+enum-known-st-3 : tie.Need-enum-known-st-3
+enum-known-st-3 c = search needs
+
+do-ea-requires : tie.Need-do-ea-requires
+do-ea-requires c κs = search (needs, rows)
+
+enum-known-st-4 : tie.Need-enum-known-st-4
+enum-known-st-4 c = search needs
+
+do-cx-requires : tie.Need-do-cx-requires
+do-cx-requires c κs = search (needs, rows)
+
+enum-known-st-5 : tie.Need-enum-known-st-5
+enum-known-st-5 c = search needs
+
+do-fa-requires : tie.Need-do-fa-requires
+do-fa-requires c κs = search (needs, rows)
+
+enum-told-4 : tie.Need-enum-told-4
+enum-told-4 c = search needs
+
+answer-requires-4 : tie.Need-answer-requires-4
+answer-requires-4 c κs = search needs
 
 returns : tie.Need-returns
 unfolding local
@@ -100,23 +100,23 @@ local-step-spec =
     tie.close
     (tie.spec
     enum-told
-    refused-requires
-    enum-known-st
-    do-st-requires
+    answer-requires
     enum-told-2
-    refused-requires-2
-    enum-known-st-2
-    do-lm-requires
-    enum-known-st-3
-    do-ia-requires
-    enum-known-st-4
-    do-ea-requires
-    enum-known-st-5
-    do-cx-requires
-    enum-known-st-6
-    do-fa-requires
+    answer-requires-2
     enum-told-3
-    do-fm-requires
+    answer-requires-3
+    enum-known-st
+    do-lm-requires
+    enum-known-st-2
+    do-ia-requires
+    enum-known-st-3
+    do-ea-requires
+    enum-known-st-4
+    do-cx-requires
+    enum-known-st-5
+    do-fa-requires
+    enum-told-4
+    answer-requires-4
     returns
     returns-2
     returns-3

@@ -1,8 +1,8 @@
--- `aside_of` meets its contract.
+-- `is_clear_for` meets its contract.
 use borrow.Author.Needs.{needs}
-use Rattle.waits.proofs.Turns.{aside-is, fm-task}
-use Rattle.waits.proofs.aside_of.Statement.{statement}
-use Rattle.waits.proofs.aside_of.Tie as tie
+use Rattle.waits.proofs.Turns.{clear-is}
+use Rattle.waits.proofs.is_clear_for.Statement.{statement}
+use Rattle.waits.proofs.is_clear_for.Tie as tie
 
 enum-told : tie.Need-enum-told
 enum-told c = search needs
@@ -31,41 +31,38 @@ is-clear-at-requires c κs = search needs
 enum-told-8 : tie.Need-enum-told-8
 enum-told-8 c = search needs
 
-enum-known-st : tie.Need-enum-known-st
-enum-known-st c = search needs
-
-none-listed-requires : tie.Need-none-listed-requires
-none-listed-requires c κs = search (needs, fm-task)
+enum-told-9 : tie.Need-enum-told-9
+enum-told-9 c = search needs
 
 returns : tie.Need-returns
-returns c = search aside-is
+returns c = search clear-is
 
 returns-2 : tie.Need-returns-2
-returns-2 c = search aside-is
+returns-2 c = search clear-is
 
 returns-3 : tie.Need-returns-3
-returns-3 c = search aside-is
+returns-3 c = search clear-is
 
 returns-4 : tie.Need-returns-4
-returns-4 c = search aside-is
+returns-4 c = search clear-is
 
 returns-5 : tie.Need-returns-5
-returns-5 c = search aside-is
+returns-5 c = search clear-is
 
 returns-6 : tie.Need-returns-6
-returns-6 c = search aside-is
+returns-6 c = search clear-is
 
 returns-7 : tie.Need-returns-7
-returns-7 c = search aside-is
+returns-7 c = search clear-is
 
 returns-8 : tie.Need-returns-8
-returns-8 c = search aside-is
+returns-8 c = search clear-is
 
 returns-9 : tie.Need-returns-9
-returns-9 c = search aside-is
+returns-9 c = search clear-is
 
-pub aside-of-spec : {M : Type 1} → statement M
-aside-of-spec =
+pub is-clear-for-spec : {M : Type 1} → statement M
+is-clear-for-spec =
     tie.close
     (tie.spec
     enum-told
@@ -77,8 +74,7 @@ aside-of-spec =
     enum-told-7
     is-clear-at-requires
     enum-told-8
-    enum-known-st
-    none-listed-requires
+    enum-told-9
     returns
     returns-2
     returns-3

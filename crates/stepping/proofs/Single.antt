@@ -27,20 +27,21 @@ use Rattle.table.specs.Tables.{tableOf}
 use Rattle.table.specs.declared.Table as rows
 use Rattle.table.specs.declared.Read.{Read}
 use Rattle.table.specs.declared.Answer.the-variants as answer
+use Rattle.log.proofs.Shapes.{no-step}
 use Rattle.engine.specs.Tallies.{tallied, noTally, Roomy}
 use Rattle.engine.specs.Turns.{lineAt}
 use Rattle.engine.specs.Play.{Played, pieces, stopped, onVerdict, onStep, played, Runs}
 use Rattle.engine.specs.Starts.{goingFrom}
-use Rattle.engine.specs.Stepping.{lineStepped, stepped}
+use Rattle.stepping.specs.Stepping.{lineStepped, stepped}
 use Rattle.engine.specs.declared.Tally.{Tally}
 use Rattle.engine.specs.declared.Stop.{Stop}
 use Rattle.engine.specs.declared.Stop.the-variants.{End, Refused, Closed}
 use Rattle.engine.specs.declared.Going.{Going}
 use Rattle.engine.specs.declared.Ran.{Ran}
-use Rattle.engine.specs.declared.Stepped.{Stepped}
+use Rattle.stepping.specs.declared.Stepped.{Stepped}
 use Rattle.engine.proofs.Stop.{the-type}
 use Rattle.engine.proofs.Lines.{at-end, at-step}
 use Rattle.engine.proofs.Starting.{roomy}
 
 -- an answer by why the run stopped: s is the state as it came, w that behind it
 abbrev answerOn : Stop → State → State → Stepped
@@ -50,10 +51,6 @@ answerOn (Closed c) s w = record { number = 0; state = w }
 
 abbrev answerOf : State → Played → Stepped
 answerOf s p = answerOn (p .stop) s (p .state)
-
--- a line that is no step says none
-no-bad : (x : Step) → Bad ≡ Is x → ⊥
-no-bad x e = let z : _≡_ {A = ℕ} 0 1 = cc in omega arith
 
 -- every stop but a refusal
 goes-on : (w : Stop) → OneOf (0 ∷ 2 ∷ []) (tagOf the-type w) → (s u : State) → record { number = 0; state = u } ≡ answerOn w s u
@@ -75,10 +72,10 @@ module _ (K : Table) (s : State) (c : Tally) (x : Step) where
       (λ h. rw h)
 
   -- a line that reads as a step is the only one
-  pub one-line : (l : List ℕ) → readLine l ≡ Is x → answerOf s (played K s c (pieces l 0)) ≡ lineStepped K s (Is x)
+  one-line : (l : List ℕ) → readLine l ≡ Is x → answerOf s (played K s c (pieces l 0)) ≡ lineStepped K s (Is x)
   unfolding readLine
   one-line l h =
-      let t = picked (eqb (firstAt l 0 10 + 1) (length l)) (no-bad x) h in
+      let t = picked (eqb (firstAt l 0 10 + 1) (length l)) no-step h in
       let n : firstAt l 0 10 + 1 ≡ length l = eqb-true _ _ (t .0) in
       let m : length l - 1 ≡ firstAt l 0 10 - 0 = omega arith in
       let k : firstAt l 0 10 ≡ length l → ⊥ = λ z. omega arith in

@@ -17,7 +17,7 @@ use Rattle.table.specs.Tables.{tableOf}
 use Rattle.table.specs.declared.Table as rows
 use Rattle.table.specs.declared.Answer.{Answer}
 use Rattle.table.specs.declared.Answer.the-variants as answer
-use Rattle.engine.specs.declared.Stepped.{Stepped}
+use Rattle.stepping.specs.declared.Stepped.{Stepped}
 
 abbrev pub isFine : Answer → Bool
 isFine answer.Fine = true

@@ -1,9 +1,9 @@
 -- `step_line` meets its contract.
 use borrow.Author.Needs.{needs}
 use Rattle.engine.proofs.Starting.{ready}
-use Rattle.engine.proofs.Single.{line-bad, line-roomy, line-refused, line-accepted}
-use Rattle.engine.proofs.step_line.Statement.{statement}
-use Rattle.engine.proofs.step_line.Tie as tie
+use Rattle.stepping.proofs.Single.{line-bad, line-roomy, line-refused, line-accepted}
+use Rattle.stepping.proofs.step_line.Statement.{statement}
+use Rattle.stepping.proofs.step_line.Tie as tie
 
 read-line-requires : tie.Need-read-line-requires
 read-line-requires c κs = search needs

@@ -1,7 +1,7 @@
--- `refused` meets its contract.
+-- `answer` meets its contract.
 use borrow.Author.Needs.{needs}
-use Rattle.rules.proofs.refused.Statement.{statement}
-use Rattle.rules.proofs.refused.Tie as tie
+use Rattle.rules.proofs.answer.Statement.{statement}
+use Rattle.rules.proofs.answer.Tie as tie
 
 task-anew-requires : tie.Need-task-anew-requires
 task-anew-requires c κs = search needs
@@ -12,5 +12,5 @@ act-anew-requires c κs = search needs
 returns : tie.Need-returns
 returns c = rw (c .act-anew .ensures, c .before .task-anew .ensures)
 
-pub refused-spec : {M : Type 1} → statement M
-refused-spec = tie.close (tie.spec task-anew-requires act-anew-requires returns)
+pub answer-spec : {M : Type 1} → statement M
+answer-spec = tie.close (tie.spec task-anew-requires act-anew-requires returns)

@@ -3,9 +3,9 @@ use borrow.Author.Needs.{needs}
 use Rattle.model.proofs.Tests.{true-T}
 use Rattle.rules.proofs.Answers.{yes-by}
 use Rattle.table.proofs.TableTurns.{checked-fine}
-use Rattle.engine.proofs.Single.{table-refused, state-unsound, step-is}
-use Rattle.engine.proofs.step.Statement.{statement}
-use Rattle.engine.proofs.step.Tie as tie
+use Rattle.stepping.proofs.Single.{table-refused, state-unsound, step-is}
+use Rattle.stepping.proofs.step.Statement.{statement}
+use Rattle.stepping.proofs.step.Tie as tie
 
 check-table-requires : tie.Need-check-table-requires
 check-table-requires c κs = search needs
