@@ -1,5 +1,5 @@
 -- The answers of a turn's small functions, by the tests that lead to them.
-use mathlib.Core.Bool.{Bool, true, false, not}
+use mathlib.Core.Bool.{Bool, true, false}
 use mathlib.Core.List.{List, [], _∷_}
 use mathlib.Core.Path.{_≡_, refl, subst, _∙_}
 use Prim.Native.Nat.{ℕ, _+_, _-_, _≤_, _<_, max}
@@ -21,7 +21,7 @@ use Rattle.model.specs.declared.Line.the-variants.{Bad}
 use Rattle.model.proofs.Step.{the-type}
 use Rattle.log.specs.Lines.{readStep}
 use Rattle.rules.specs.Local.{named}
-use Rattle.rules.proofs.Answers.{fails-l, fails-r, holds-both, no-by, yes-by}
+use Rattle.rules.proofs.Answers.{fails-l, fails-r, holds-both, no-by, yes-by, turned-no, turned-yes}
 use Rattle.engine.specs.Turns.{lineAt, smNumber, smBy, inLists, flagged}
 use Rattle.engine.specs.Tallies.{closedBy, ruledBy, rulingBy, afterWait, afterStep}
 use Rattle.engine.specs.declared.Tally.{Tally}
@@ -47,13 +47,7 @@ refuses b n r h = rw h
 pub goes : (b : Bool) (n r k : ℕ) → b ≡ true → k ≡ r → k ≡ need b n r
 goes b n r k h e = rw h e
 
-pub is-not : (b : Bool) → b ≡ false → not b ≡ true
-is-not b h = rw h
-
-pub is-so : (b : Bool) → b ≡ true → not b ≡ false
-is-so b h = rw h
-
-pub ruleset numbering = (refuses, goes, is-not, is-so, fails-l, fails-r, holds-both, no-by, yes-by)
+pub ruleset numbering = (refuses, goes, turned-no, turned-yes, fails-l, fails-r, holds-both, no-by, yes-by)
 
 -- a step that names a task
 pub task-named : (K : Table) (x z : Step) (t : ℕ) → x ≡ z → named K z ≡ ltb t (K .ntasks) → T (named K x) → t < K .ntasks

@@ -5,7 +5,7 @@ use Prim.Native.Nat.{ℕ, _+_, _≤_, _<_}
 use native.Mathlib.Numerals.{add-one}
 use native.Mathlib.Omega.{arith}
 use lib.Dec.{T}
-use lib.ListN.{length, getD, set, take, length-set, length-map}
+use lib.ListN.{length, getD, set, take, length-set}
 use lib.Seq.{take-all, take-suc, take-suc-set}
 use Rattle.model.specs.Limits.{mostActs}
 use Rattle.model.specs.Tables.{Table}
@@ -19,10 +19,6 @@ use Rattle.engine.specs.Tallies.{noTally, mostCount, Roomy}
 use Rattle.engine.specs.Play.{Ready}
 use Rattle.engine.specs.Starts.{goingFrom, freshGoing}
 use Rattle.engine.specs.declared.Going.{Going}
-
--- how many rows there are, from what is known of them as they are laid out
-pub rows-are : {A B : Type 0} (f : A → B) (l : List A) (n : ℕ) → length (map f l) ≡ n → length l ≡ n
-rows-are f l n h = sym (length-map l f) ∙ h
 
 -- the first a of the numbers l are those of the first a activities
 pub record Noted (f : Act → ℕ) (acts : List Act) (l : List ℕ) (a : ℕ) : Type 0 where

@@ -2,10 +2,10 @@
 use Prim.Native.Nat.{ℕ, _+_, max, zero-le}
 use mathlib.Core.Bool.{Bool, true, false, cond}
 use mathlib.Core.List.{List, [], _∷_, _++_, append-assoc}
-use mathlib.Core.Path.{_≡_, refl, sym, ap, subst, subst⁻¹, _∙_}
+use mathlib.Core.Path.{_≡_, refl, sym, ap, subst⁻¹, _∙_}
 use native.Mathlib.Omega.{arith}
 use borrow.Author.Tests.{eqb-false}
-use lib.ListN.{length, drop}
+use lib.ListN.{length}
 use Rattle.text.specs.Parts.{pick, splitOn}
 use Rattle.text.proofs.Picks.{cases, false-true}
 use Rattle.text.proofs.Parts.{parts-all, parts-cut}
@@ -214,10 +214,6 @@ module _ (K : Table) where
   account-told {s} {c} {ps} {p} t =
       ap (tell K s c) (sym (followed-none ps)) ∙ t .on [] ∙ ap (λ l. pending (p .stop) ++ tell K (p .state) (p .tally) l) (followed-none (p .rest))
 
-  -- a refusal has a number
-  pub refused-some : (s : State) (c : Tally) (ps : List (List ℕ)) {w : State} {d : Tally} {rest : List (List ℕ)} {n : ℕ} → played K s c ps ≡ stopped w d (Refused n) rest → n ≡ 0 → ⊥
-  refused-some s c ps {n = n} e = subst (Account K s c ps) e (account ps s c) .some n refl
-
   -- what is told of a run over a log
   module _ {log : List ℕ} {from : ℕ} {g : Going} {r : Ran} (h : Runs K log from g r) where
     pub run-account : Account K (g .state) (g .tally) (pieces log from) (stopped (r .going .state) (r .going .tally) (r .stop) (pieces log (r .at)))
@@ -232,13 +228,6 @@ module _ (K : Table) where
 -- a text has at least one piece
 pub split-some : (a : List ℕ) → (p : List ℕ) × (ps : List (List ℕ)) × (splitOn 10 a ≡ p ∷ ps)
 split-some a = (_, _, sym (parts-all 10 a) ∙ parts-cut 10 a 0 zero-le)
-
-pub pieces-some : (log : List ℕ) (at : ℕ) → pieces log at ≡ [] → ⊥
-pieces-some log at e =
-    let w = split-some (drop at log) in
-    let u : [] ≡ w .0 ∷ w .1 = sym e ∙ w .2 in
-    let z : _≡_ {A = ℕ} 0 1 = cc in
-    omega arith
 
 -- from the fresh state on, with nothing counted, the `sum` row is the report's
 pub sum-fresh : (K : Table) (xs : List Step) (n : ℕ) → sumAfter K fresh noTally xs n ≡ reportOn K fresh xs n .sum

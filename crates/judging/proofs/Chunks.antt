@@ -53,18 +53,6 @@ whole-drop a n h =
     let e : splitOn 10 a ≡ followed (splitOn 10 (take n a)) (splitOn 10 (drop n a)) = ap (splitOn 10) (sym (take-append-drop n a)) ∙ split-append (take n a) (drop n a) in
     rw (w .2) (last-followed (splitOn 10 (take n a)) (w .0) (w .1) (rw (e, w .2) at h))
 
-pub whole-none : Whole []
-whole-none = refl
-
-pub whole-line : (a : List ℕ) → Whole (a ++ 10 ∷ [])
-whole-line a = rw (split-append a (10 ∷ [])) (go (splitOn 10 a))
-  where
-    go : (ps : List (List ℕ)) → lastPart (followed ps ([] ∷ [] ∷ [])) ≡ []
-    go [] = refl
-    go (p ∷ []) = refl
-    go (p ∷ q ∷ []) = refl
-    go (p ∷ q ∷ r ∷ ps) = go (q ∷ r ∷ ps)
-
 module _ (K : Table) (log : List ℕ) where
   -- one run
   pub carries-run : {from : ℕ} {g : Going} {r : Ran} → Runs K log from g r → Carries K log from g [] (r .going) (r .at) (r .stop)

@@ -12,24 +12,20 @@ use Rattle.model.specs.Tables.{Table}
 use Rattle.model.specs.Rows.{wellformed}
 use Rattle.model.specs.States.{fresh}
 use Rattle.model.specs.Rules.{refusal, next}
-use Rattle.model.specs.Sound.{sound}
 use Rattle.model.specs.Logs.{allAccepted, reached, most}
 use Rattle.model.specs.Cycles.{Verdict, none, kept, dropped, KeptRow, Report, verdict, isFm, isVerdict, withKept, keptIn, stepsOf, stopOn, report}
 use Rattle.model.specs.declared.State.{State}
 use Rattle.model.specs.declared.Step.{Step}
 use Rattle.model.specs.declared.Line.{Line}
 use Rattle.model.proofs.Tests.{true-T, and-i, and-both}
-use Rattle.model.proofs.Soundness.{Shaped}
 use Rattle.model.proofs.Verdicts.{verdict-at-fm}
-use Rattle.model.proofs.Demand.{DemandThree, demand-three, demand-three-from}
+use Rattle.model.proofs.Demand.{DemandThree, demand-three}
 use Rattle.model.proofs.Reports.{Through, StoppedAt, steps-accepted, report-balance, report-bound, stop-exact}
 use Rattle.table.specs.Tables.{tableOf}
 use Rattle.table.specs.Texts.{readTable}
 use Rattle.table.specs.declared.Answer.the-variants.{Fine}
 use Rattle.table.proofs.Trips.{read-wellformed}
-use Rattle.engine.specs.Tallies.{noTally}
 use Rattle.judging.specs.Report.{linesIn, reportText, logText, reportOn}
-use Rattle.judging.specs.Telling.{sumAfter}
 use Rattle.judging.proofs.Bounds.{text-bound}
 use Rattle.judging.proofs.Counts.{line-some}
 
@@ -56,12 +52,7 @@ first-accepted K (y ∷ ys) zs s ok =
     let now = and-both (accepted (refusal K s y)) _ ok in
     and-i (accepted (refusal K s y)) _ (now .0) (first-accepted K ys zs (next K s y) (now .1))
 
--- the seventh number, counted along accepted steps from a sound state, is the definition's over these steps, and within the bound
-pub most-counted : (K : Table) → T (wellformed K) → (s : State) → Shaped s → T (sound K s) → (xs : List Step) → T (allAccepted K s xs) → (n : ℕ)
-    → (sumAfter K s noTally xs n .most ≡ most 0 xs) × (most 0 xs ≤ 6 * K .nacts + 6 * K .ntasks)
-most-counted K wf s h ok xs acc n = (omega arith, omega (arith, demand-three-from K wf s h ok xs acc .bound))
-
--- so is the report's
+-- the report's seventh number is the definition's over the accepted steps, and within the bound
 pub most-told : (K : Table) → T (wellformed K) → (log : List ℕ)
     → (report K fresh (linesIn (splitOn 10 log)) .sum .most ≡ most 0 (stepsOf K fresh (linesIn (splitOn 10 log))))
     × (report K fresh (linesIn (splitOn 10 log)) .sum .most ≤ 6 * K .nacts + 6 * K .ntasks)

@@ -34,6 +34,13 @@ no-by r b e n = rw e at (not-true r n)
 pub yes-by : (r b : Bool) → r ≡ b → not r ≡ false → b ≡ true
 yes-by r b e n = rw e at (not-false r n)
 
+-- a test that is the opposite of what was tested
+pub turned-no : (b : Bool) → b ≡ true → not b ≡ false
+turned-no b e = rw e
+
+pub turned-yes : (b : Bool) → b ≡ false → not b ≡ true
+turned-yes b e = rw e
+
 -- two of three tests by their result
 pub fails-two : (r a b c : Bool) → r ≡ (a and b) → not r ≡ true → (a and b and c) ≡ false
 fails-two r true b c e n = fails-l b c (no-by r b e n)

@@ -17,13 +17,6 @@ stops a b e = rw e
 pub goes : (r a b : Bool) → a ≡ true → r ≡ b → r ≡ (a and b)
 goes r a b e q = rw e q
 
--- a part that is the opposite of what was tested
-pub turned-no : (b : Bool) → b ≡ true → not b ≡ false
-turned-no b e = rw e
-
-pub turned-yes : (b : Bool) → b ≡ false → not b ≡ true
-turned-yes b e = rw e
-
 -- a part under a condition, of which one side was a result
 module _ (r g a b : Bool) where
   pub if-by : g ≡ a → r ≡ (g implies b) → r ≡ (a implies b)

@@ -13,11 +13,9 @@ use Rattle.model.specs.Limits.{mostTicks, inRange, ceiling}
 use Rattle.model.specs.Tables.{Table, safe}
 use Rattle.model.specs.States.{taskAt, actAt}
 use Rattle.model.specs.Rules.{waitRefusal}
-use Rattle.model.specs.declared.Task.{Task}
 use Rattle.model.specs.declared.Act.{Act}
 use Rattle.model.specs.declared.State.{State}
 use Rattle.model.specs.declared.Place.the-variants.{Ether, Codel}
-use Rattle.model.specs.declared.Holder.{Holder}
 use Rattle.model.specs.declared.Holder.the-variants.{Manager, Activity}
 use Rattle.model.proofs.Tests.{T-true, true-T, and-r, some-mk}
 use Rattle.model.proofs.Formed.{Formed}

@@ -5,7 +5,8 @@ use mathlib.Core.Path.{_≡_, refl}
 use lib.ListN.{length}
 use Rattle.model.specs.Limits.{mostActs}
 use Rattle.waits.specs.Beside.{busyOf, listedOf}
-use Rattle.engine.proofs.Starting.{rows-are, Noted, noted-none, noted-more, going-made}
+use Rattle.waits.proofs.Holders.{rows-long}
+use Rattle.engine.proofs.Starting.{Noted, noted-none, noted-more, going-made}
 use Rattle.engine.proofs.going_from.Statement.{statement}
 use Rattle.engine.proofs.going_from.Tie as tie
 
@@ -16,7 +17,7 @@ abbrev μ-loop : tie.MeasureT-loop
 μ-loop s busy₀ listed₀ a₀ busy listed a = mostActs - a
 
 loop-holds : tie.Need-loop-holds Inv-loop μ-loop
-loop-holds c = let h : length (c .args .t1 .acts) ≡ mostActs = search rows-are in (search needs, noted-none h refl, noted-none h refl)
+loop-holds c = let h : length (c .args .t1 .acts) ≡ mostActs = search rows-long in (search needs, noted-none h refl, noted-none h refl)
 
 mul-y : tie.Need-mul-y Inv-loop μ-loop
 mul-y c = search needs

@@ -5,7 +5,7 @@ use Rattle.soundness.proofs.waiting_ok.Statement.{statement}
 use Rattle.soundness.proofs.waiting_ok.Tie as tie
 
 returns : tie.Need-returns
-returns c = search (asked-here, chain, numbers)
+returns c = search (chain, numbers)
 
 is-manager-requires : tie.Need-is-manager-requires
 is-manager-requires c κs = search needs
