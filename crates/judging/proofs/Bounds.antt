@@ -10,6 +10,7 @@ use Rattle.text.specs.Parts.{pick, splitOn, joinOn}
 use Rattle.text.specs.Number.{digits}
 use Rattle.text.specs.Set.{setDigits}
 use Rattle.text.specs.Words.{wordIn, wordAt}
+use Rattle.text.specs.Fields.{mostDigits}
 use Rattle.text.specs.declared.Number.{Number}
 use Rattle.text.specs.declared.Number.the-variants as number
 use Rattle.text.specs.declared.Word.{Word}
@@ -40,7 +41,7 @@ use Rattle.model.proofs.StepsKeep.{step-keeps}
 use Rattle.model.proofs.Verdicts.{verdict-at-fm}
 use Rattle.model.proofs.Balance.{balance}
 use Rattle.model.proofs.Reports.{steps-accepted}
-use Rattle.log.specs.Lines.{mostDigits, longestLine, stepWords, aNumber, aSet, aPlace, given, only, headed, oneNumber, twoNumbers, managerLine, leavingLine, oneOf, twoOf, placeOf, onWord, stepIn, readStep}
+use Rattle.log.specs.Lines.{longestLine, stepWords, aNumber, aSet, aPlace, given, only, headed, oneNumber, twoNumbers, managerLine, leavingLine, oneOf, twoOf, placeOf, onWord, stepIn, readStep}
 use Rattle.log.proofs.Words.{nine, nine-words}
 use Rattle.engine.specs.Tallies.{keepsOne}
 use Rattle.judging.specs.Rows.{numbersText, lineText, layout, headText, keptText, rowsText, sumText}

@@ -11,6 +11,7 @@ use borrow.Author.Tests.{ltb-false, eqb-false}
 use Rattle.text.specs.Parts.{pick, firstAt, splitOn}
 use Rattle.text.specs.Set.{setDigits}
 use Rattle.text.specs.Words.{sameList, wordIn}
+use Rattle.text.specs.Fields.{mostDigits, etherValue, etherWord}
 use Rattle.text.specs.declared.Number.{Number}
 use Rattle.text.specs.declared.Number.the-variants as number
 use Rattle.text.specs.declared.Word.{Word}
@@ -23,7 +24,7 @@ use Rattle.model.specs.declared.Step.{Step}
 use Rattle.model.specs.declared.Step.the-variants.{Wait, St, Sm, Lm, Ia, Ea, Cx, Fa, Fm}
 use Rattle.model.specs.declared.Line.{Line}
 use Rattle.model.specs.declared.Line.the-variants.{Is, Bad}
-use Rattle.log.specs.Lines.{mostDigits, longestLine, etherValue, etherWord, stepWords, aNumber, aSet, aPlace, given, only, headed, twoNumbers, managerLine, leavingLine, oneNumber, oneOf, twoOf, placeOf, onWord, stepIn, readStep, readLine}
+use Rattle.log.specs.Lines.{longestLine, stepWords, aNumber, aSet, aPlace, given, only, headed, twoNumbers, managerLine, leavingLine, oneNumber, oneOf, twoOf, placeOf, onWord, stepIn, readStep, readLine}
 
 -- the numbers of a step are below 10 ^ 10, its sets below 2 ^ 64
 abbrev pub Within : Step → Type 0

@@ -7,8 +7,8 @@ use lib.ListN.{length, getD, set, replicate}
 use lib.Seq.{sets}
 use lib.Dec.{ltb, eqb}
 use Rattle.text.specs.Parts.{pick}
+use Rattle.text.specs.Fields.{etherValue}
 use Rattle.row.specs.Kinds.{mostOf, formOf, noField, aKind, aMode}
-use Rattle.row.specs.Row.{etherValue}
 use Rattle.row.specs.declared.Row.{Row}
 use Rattle.model.specs.Tests.{_and_, _or_}
 use Rattle.model.specs.Tables as model

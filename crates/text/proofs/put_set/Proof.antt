@@ -23,7 +23,7 @@ same-length c = search needs
 
 returns-2 : tie.Need-returns-2
 unfolding setText
-returns-2 c = search (put-whole, length-set-text)
+returns-2 c = search (put-whole)
 
 pub put-set-spec : {M : Type 1} → statement M
 put-set-spec =
