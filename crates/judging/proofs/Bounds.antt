@@ -1,5 +1,5 @@
 -- How long a report is at most: 202 bytes, and 75 for each 44 bytes of its log.
-use Prim.Native.Nat.{ℕ, _+_, _-_, _*_, _/_, _^_, _≤_, _<_}
+use Prim.Native.Nat.{ℕ, _+_, _-_, _*_, _/_, _≤_, _<_}
 use mathlib.Core.Bool.{Bool, true, false, cond}
 use mathlib.Core.List.{List, [], _∷_}
 use mathlib.Core.Path.{_≡_, refl, sym, ap, _∙_}
@@ -7,15 +7,15 @@ use native.Mathlib.Omega.{arith}
 use lib.Dec.{T, leb, leb→le, eqb, eqb→eq}
 use lib.ListN.{length, getD, length-append}
 use Rattle.text.specs.Parts.{splitOn, joinOn}
-use Rattle.text.specs.Number.{digits}
 use Rattle.text.specs.Set.{setDigits}
 use Rattle.text.specs.Words.{wordIn, wordAt}
+use Rattle.text.specs.Fields.{mostDigits}
 use Rattle.text.specs.declared.Number.the-variants as number
 use Rattle.text.specs.declared.Word.the-variants as word
 use Rattle.text.proofs.Picks.{cases}
 use Rattle.text.proofs.Parts.{join-split}
 use Rattle.text.proofs.Words.{word-read}
-use Rattle.text.proofs.Numbers.{digits-read, length-digits, width-within, width-bound}
+use Rattle.text.proofs.Numbers.{digits-read, digits-short, length-digits, width-within}
 use Rattle.text.proofs.Sets.{set-text-read, length-set-text}
 use Rattle.model.specs.Tests.{one, each, accepted}
 use Rattle.model.specs.Limits.{mostTasks, mostTicks, ceiling}
@@ -38,7 +38,7 @@ use Rattle.model.proofs.StepsKeep.{step-keeps}
 use Rattle.model.proofs.Verdicts.{verdict-at-fm}
 use Rattle.model.proofs.Balance.{balance}
 use Rattle.model.proofs.Reports.{steps-accepted}
-use Rattle.log.specs.Lines.{mostDigits, stepWords, aNumber, aSet, readStep}
+use Rattle.log.specs.Lines.{stepWords, aNumber, aSet, readStep}
 use Rattle.log.proofs.Words.{nine, nine-words}
 use Rattle.log.proofs.Shapes.{either, Shapes, shaped}
 use Rattle.engine.specs.Tallies.{keepsOne}
@@ -57,19 +57,15 @@ record Small (r : KeptRow) : Type 0 where
   missed : r .missed ≤ ceiling
   longest : r .longest ≤ mostTicks
 
--- a number below a power of ten takes no more bytes than that power
-length-below : (n w : ℕ) → n < 10 ^ w → 1 ≤ w → length (digits n) ≤ w
-length-below n w h l = omega (arith, length-digits n, width-bound n w h l)
-
 row-length : (r : KeptRow) → Small r → length (keptText r) ≤ 75
 unfolding lineText numbersText
 row-length r h =
-    let a = length-below (r .task) 2 (omega (arith, h .task)) (omega arith) in
-    let b = length-below (r .cycle) 13 (omega (arith, h .cycle)) (omega arith) in
-    let c = length-below (r .opened) 13 (omega (arith, h .opened)) (omega arith) in
-    let d = length-below (r .closed) 13 (omega (arith, h .closed)) (omega arith) in
-    let e = length-below (r .missed) 13 (omega (arith, h .missed)) (omega arith) in
-    let f = length-below (r .longest) 10 (omega (arith, h .longest)) (omega arith) in
+    let a = digits-short (r .task) 2 (omega (arith, h .task)) (omega arith) in
+    let b = digits-short (r .cycle) 13 (omega (arith, h .cycle)) (omega arith) in
+    let c = digits-short (r .opened) 13 (omega (arith, h .opened)) (omega arith) in
+    let d = digits-short (r .closed) 13 (omega (arith, h .closed)) (omega arith) in
+    let e = digits-short (r .missed) 13 (omega (arith, h .missed)) (omega arith) in
+    let f = digits-short (r .longest) 10 (omega (arith, h .longest)) (omega arith) in
     simp length-append (omega arith)
 
 sum-length : (r : SumRow) → length (sumText r) ≤ 193

@@ -42,9 +42,6 @@ const CYCLE_LINES: usize = 44;
 // The most that a count may come to.
 const MOST_COUNT: u64 = 9223372036854775808;
 
-// The longest table text.
-const LONGEST_TABLE: usize = 32768;
-
 // What telling the kept cycles of a log came to: where it stands, the place behind the rows written, and why it stopped. A cycle that it
 // stopped at is not told yet: its row has no room.
 pub struct Told {
@@ -379,10 +376,10 @@ fn table_end(s: &[u8], most: usize) -> usize
 pub fn cut_at(s: &[u8]) -> usize
     ensures { λ r. ⌜ r ≡ cutOf (now (s .entry)) ⌝ }
 {
-    if s.len() <= LONGEST_TABLE {
+    if s.len() <= table::LONGEST {
         return table_end(s, s.len());
     }
-    table_end(&s[..LONGEST_TABLE], LONGEST_TABLE + 1)
+    table_end(&s[..table::LONGEST], table::LONGEST + 1)
 }
 
 // How many bytes there are up to and with the last newline.

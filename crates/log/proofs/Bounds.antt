@@ -10,15 +10,17 @@ use borrow.Author.Tests.{ltb-false, eqb-false}
 use Rattle.text.specs.Parts.{firstAt}
 use Rattle.text.specs.Set.{setDigits}
 use Rattle.text.specs.Words.{sameList}
+use Rattle.text.specs.Fields.{mostDigits, etherValue, etherWord}
 use Rattle.text.specs.declared.Number.the-variants as number
 use Rattle.text.proofs.Picks.{cases, order, picked, passed}
 use Rattle.text.proofs.Numbers.{number-below}
 use Rattle.text.proofs.Sets.{set-text-read}
+use Rattle.model.specs.Tables.{targetOf}
 use Rattle.model.specs.declared.Place.the-variants.{Ether, Codel}
 use Rattle.model.specs.declared.Step.{Step}
 use Rattle.model.specs.declared.Step.the-variants.{Wait, St, Sm, Lm, Ia, Ea, Cx, Fa, Fm}
 use Rattle.model.specs.declared.Line.the-variants.{Is}
-use Rattle.log.specs.Lines.{mostDigits, longestLine, etherValue, etherWord, aSet, aPlace, placeOf, readStep, readLine}
+use Rattle.log.specs.Lines.{longestLine, aSet, aPlace, readStep, readLine}
 use Rattle.log.proofs.Shapes.{no-step, either, Shapes, shaped}
 
 -- the numbers of a step are below 10 ^ 10, its sets below 2 ^ 64
@@ -43,7 +45,7 @@ place-most p v u =
     (λ e. let q : number.Is etherValue ≡ number.Is v = rw e at u in let z : etherValue ≡ v = cc in omega arith)
     (λ e. omega (arith, number-below mostDigits p v (rw e at u)))
 
-place-within : (a c : ℕ) → a < 10 ^ 10 → c ≤ etherValue → Within (Fa a (placeOf c))
+place-within : (a c : ℕ) → a < 10 ^ 10 → c ≤ etherValue → Within (Fa a (targetOf c))
 place-within a c h m =
     cases (eqb c etherValue)
     (λ g. rw g h)

@@ -6,11 +6,12 @@ use Rattle.text.specs.Digits.{valueOf}
 use Rattle.text.specs.Number.{readNumber}
 use Rattle.text.specs.Set.{readSet}
 use Rattle.text.specs.Words.{wordIn}
+use Rattle.text.specs.Fields.{etherWord}
 use Rattle.model.specs.declared.Place.the-variants.{Ether, Codel}
 use Rattle.model.specs.declared.Step.the-variants.{Wait, St, Sm, Lm, Ia, Ea, Cx, Fa, Fm}
 use Rattle.model.specs.declared.Line.{Line}
 use Rattle.model.specs.declared.Line.the-variants.{Is, Bad}
-use Rattle.log.specs.Lines.{etherWord, stepWords, readStep, readLine}
+use Rattle.log.specs.Lines.{stepWords, readStep, readLine}
 
 -- a line's bytes, and what it says
 abbrev pub examples : List (List ℕ × Line)

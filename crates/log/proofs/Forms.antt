@@ -8,6 +8,7 @@ use lib.Dec.{eqb}
 use Rattle.text.specs.Parts.{splitOn, joinOn, free}
 use Rattle.text.specs.Words.{sameList}
 use Rattle.text.specs.Set.{setDigits}
+use Rattle.text.specs.Fields.{mostDigits, etherWord}
 use Rattle.text.specs.declared.Number.{Number}
 use Rattle.text.specs.declared.Number.the-variants.{Is, Bad}
 use Rattle.text.proofs.Picks.{cases}
@@ -15,7 +16,7 @@ use Rattle.text.proofs.Parts.{join-split, split-join}
 use Rattle.text.proofs.Words.{same-list}
 use Rattle.text.proofs.Numbers.{digits-read, digits-free}
 use Rattle.text.proofs.Sets.{set-text-read, set-text-free}
-use Rattle.log.specs.Lines.{mostDigits, etherWord, aNumber, aSet, aPlace, byForm, only}
+use Rattle.log.specs.Lines.{aNumber, aSet, aPlace, byForm, only}
 
 -- a field reads or does not
 pub told : {P : Type 0} (n : Number) → ((v : ℕ) → n ≡ Is v → P) → (n ≡ Bad → P) → P

@@ -6,24 +6,26 @@ use mathlib.Core.Bool.{Bool, true, false, not}
 use native.Mathlib.Omega.{arith}
 use lib.ListN.{length, getD, take, drop, length-drop, take-append-drop}
 use lib.Seq.{take-all, length-take-le}
-use lib.Dec.{leb}
-use borrow.Author.Tests.{lt-ltb, le-ltb, le-leb, lt-leb, leb-false, eq-eqb, ne-eqb, not-true, not-false}
-use Rattle.text.specs.Parts.{pick, firstAt, splitOn, partsFrom}
+use borrow.Author.Tests.{lt-ltb, le-ltb, eq-eqb, ne-eqb, not-true, not-false}
+use Rattle.text.specs.Parts.{firstAt, splitOn, partsFrom}
 use Rattle.text.specs.Words.{sameList, wordIn}
+use Rattle.text.specs.Fields.{behind}
 use Rattle.text.specs.declared.Number.{Number}
 use Rattle.text.specs.declared.Number.the-variants as number
 use Rattle.text.specs.declared.Word.{Word}
 use Rattle.text.specs.declared.Word.the-variants as word
-use Rattle.text.proofs.Picks.{order, passed, false-true}
-use Rattle.text.proofs.Parts.{firstAt-le, parts-cut, parts-none}
+use Rattle.text.specs.declared.Got.{Got}
+use Rattle.text.specs.declared.Got.the-variants as got
+use Rattle.text.proofs.Picks.{false-true}
+use Rattle.text.proofs.Parts.{parts-none}
 use Rattle.text.proofs.Words.{same-list}
+use Rattle.text.proofs.Turns.{first-ends, behind-parts}
+use Rattle.model.specs.Tables.{targetOf}
 use Rattle.model.specs.declared.Place.{Place}
 use Rattle.model.specs.declared.Step.the-variants.{Wait, Lm, Ea, Fa}
 use Rattle.model.specs.declared.Line.{Line}
 use Rattle.model.specs.declared.Line.the-variants.{Is, Bad}
-use Rattle.log.specs.Lines.{etherValue, etherWord, stepWords, aNumber, aSet, byForm, only, headed, gotAt, headOf, given, placeOf, oneNumber, oneOf, twoNumbers, twoOf, managerLine, leavingLine, stepOf, onWord, stepIn, readStep, readLine}
-use Rattle.log.specs.declared.Got.{Got}
-use Rattle.log.specs.declared.Got.the-variants as got
+use Rattle.log.specs.Lines.{stepWords, aNumber, aSet, aPlace, byForm, only, headed, given, oneNumber, oneOf, twoNumbers, twoOf, managerLine, leavingLine, stepOf, onWord, stepIn, readStep, readLine}
 use Rattle.log.proofs.Words.{wait, begins, short, waiting}
 use Rattle.log.proofs.Forms.{told, tabless, only-whole}
 
@@ -36,12 +38,8 @@ module _ (form : ℕ) (p : List ℕ) where
     pub form-set : (n : Number) → form ≡ 1 → n ≡ aSet p → n ≡ byForm form p
     form-set n h e = rw (ne-eqb _ _ a, eq-eqb _ _ h) e
 
-    module _ (b : form ≡ 1 → ⊥) (t : Bool) (q : t ≡ sameList p etherWord) where
-      pub form-ether : t ≡ true → number.Is etherValue ≡ byForm form p
-      form-ether u = rw (ne-eqb _ _ a, ne-eqb _ _ b, ← q, u)
-
-      pub form-codel : t ≡ false → (n : Number) → n ≡ aNumber p → n ≡ byForm form p
-      form-codel u n e = rw (ne-eqb _ _ a, ne-eqb _ _ b, ← q, u) e
+    pub form-place : (n : Number) → (form ≡ 1 → ⊥) → n ≡ aPlace p → n ≡ byForm form p
+    form-place n h e = rw (ne-eqb _ _ a, ne-eqb _ _ h) e
 
 -- the field behind the tab at a place: where it is the only one
 module _ (form : ℕ) (s : List ℕ) (at : ℕ) where
@@ -54,49 +52,15 @@ module _ (form : ℕ) (s : List ℕ) (at : ℕ) where
       let l : length (drop (at + 1) s) ≤ length s - (at + 1) = omega (arith, length-drop (at + 1) s) in
       rw (le-ltb _ _ k) (rw (take-all _ _ l) at e ∙ sym (only-whole (byForm form) (tabless form) (drop (at + 1) s)))
 
-  -- where others may follow
-  pub head-gone : length s ≤ at → got.Bad ≡ headOf (byForm form) s at
-  head-gone h = rw (le-leb _ _ h)
-
-  module _ (h : at < length s) (e : ℕ) (f : e ≡ firstAt s (at + 1) 9) where
-    pub head-ends : e ≤ length s
-    head-ends = rw f (firstAt-le 9 s (at + 1) (omega arith) .1)
-
-    module _ (n : Number) (q : n ≡ byForm form (take (e - (at + 1)) (drop (at + 1) s))) where
-      pub head-bad : n ≡ number.Bad → got.Bad ≡ headOf (byForm form) s at
-      head-bad u = rw (lt-leb _ _ h, ← f, ← q, u)
-
-      pub head-is : (v : ℕ) → n ≡ number.Is v → got.Is v e ≡ headOf (byForm form) s at
-      head-is v u = rw (lt-leb _ _ h, ← f, ← q, u)
-
--- a field that was found ends within the line
-pub got-ends : (s : List ℕ) (at v p : ℕ) (n : Number) (g : Got) → g ≡ pick (leb (length s) at) got.Bad (gotAt n (firstAt s (at + 1) 9)) → g ≡ got.Is v p → p ≤ length s
-got-ends s at v p n g e u =
-    let t = passed (leb (length s) at) none (sym e ∙ u) in
-    told n
-    (λ w q. let m : got.Is w (firstAt s (at + 1) 9) ≡ got.Is v p = rw q at (t .1) in
-    let l : firstAt s (at + 1) 9 ≡ p = cc in
-    omega (arith, firstAt-le 9 s (at + 1) (omega (arith, leb-false (length s) at (t .0))) .1))
-    (λ q. absurd (none (rw q at (t .1))))
-  where
-    none : got.Bad ≡ got.Is v p → ⊥
-    none z = let y : _≡_ {A = ℕ} 0 1 = cc in omega arith
-
 -- what a line says by its first field and the others
 abbrev onGot : List ℕ → Got → (ℕ → List (List ℕ) → Line) → Line
 onGot s (got.Is v p) go = go v (partsFrom 9 s (p + 1))
 onGot s got.Bad go = Bad
 
-headed-got : (form : List ℕ → Number) (s : List ℕ) (at : ℕ) (go : ℕ → List (List ℕ) → Line) → headed form (partsFrom 9 s (at + 1)) go ≡ onGot s (headOf form s at) go
-headed-got form s at go =
-    order at (length s)
-    (λ k.
-    let l : at + 1 ≤ length s = omega arith in
-    rw (parts-cut 9 s (at + 1) l, lt-leb _ _ k)
-    (told (form (take (firstAt s (at + 1) 9 - (at + 1)) (drop (at + 1) s))) (λ v u. rw u) (λ u. rw u)))
-    (λ k. let l : length s < at + 1 = omega arith in rw (parts-none 9 s (at + 1) l, le-leb _ _ k))
+headed-got : (form : List ℕ → Number) (s : List ℕ) (at : ℕ) (go : ℕ → List (List ℕ) → Line) → headed form (partsFrom 9 s (at + 1)) go ≡ onGot s (behind form s at) go
+headed-got form s at go = behind-parts form s at (λ p b. rw (p, b)) (λ p e l q b. rw (q, b) (told (form p) (λ v u. rw u) (λ u. rw u)))
 
-module _ (form : List ℕ → Number) (s : List ℕ) (at : ℕ) (g : Got) (e : g ≡ headOf form s at) where
+module _ (form : List ℕ → Number) (s : List ℕ) (at : ℕ) (g : Got) (e : g ≡ behind form s at) where
   pub headed-bad : g ≡ got.Bad → (go : ℕ → List (List ℕ) → Line) → Bad ≡ headed form (partsFrom 9 s (at + 1)) go
   headed-bad u go = rw (headed-got form s at go, ← e, u)
 
@@ -119,7 +83,7 @@ module _ (k a b : ℕ) where
   pub two-ea : (k ≡ 3 → ⊥) → Is (Ea a b) ≡ Is (twoOf k a b)
   two-ea h = rw (ne-eqb _ _ h)
 
-pub leaving : (a c : ℕ) (p : Place) → p ≡ placeOf c → Is (Fa a p) ≡ Is (Fa a (placeOf c))
+pub leaving : (a c : ℕ) (p : Place) → p ≡ targetOf c → Is (Fa a p) ≡ Is (Fa a (targetOf c))
 leaving a c p e = rw e
 
 -- the step of a word
@@ -146,13 +110,9 @@ module _ (k : ℕ) (ps : List (List ℕ)) (r : Line) where
 pub part-long : (s : List ℕ) (e : ℕ) → e ≤ length s → e ≡ length (take e s)
 part-long s e h = sym (length-take-le e s h)
 
--- what a text's first c cuts off
-module _ (s : List ℕ) (e c : ℕ) (f : e ≡ firstAt s 0 c) where
-  pub first-ends : e ≤ length s
-  first-ends = rw f (firstAt-le c s 0 (omega arith) .1)
-
-  pub first-long : e ≡ length (take e s)
-  first-long = part-long s e first-ends
+-- so are those before its first c
+pub first-long : (s : List ℕ) (e c : ℕ) → e ≡ firstAt s 0 c → e ≡ length (take e s)
+first-long s e c f = part-long s e (first-ends s e c f)
 
 -- what a line says by its word and its fields
 module _ (w v : Word) (e : w ≡ v) (ps : List (List ℕ)) where

@@ -1,31 +1,22 @@
 -- "Log lines carry the action names of document 000, 6.2.1, plus `wait` and `cx`, in the table's field and number form."
 use Prim.Native.Nat.{ℕ, _+_, _-_}
 use mathlib.Core.List.{List, [], _∷_}
-use lib.ListN.{length, take, drop}
-use lib.Dec.{ltb, leb, eqb}
+use lib.ListN.{length, take}
+use lib.Dec.{ltb, eqb}
 use Rattle.text.specs.Parts.{pick, splitOn, firstAt}
 use Rattle.text.specs.Number.{readNumber}
 use Rattle.text.specs.Set.{readSet, setDigits}
-use Rattle.text.specs.Words.{sameList, wordIn}
+use Rattle.text.specs.Words.{wordIn}
+use Rattle.text.specs.Fields.{mostDigits, readTarget}
 use Rattle.text.specs.declared.Number.{Number}
 use Rattle.text.specs.declared.Number.the-variants as number
 use Rattle.text.specs.declared.Word.{Word}
 use Rattle.text.specs.declared.Word.the-variants as word
-use Rattle.model.specs.declared.Place.{Place}
-use Rattle.model.specs.declared.Place.the-variants.{Ether, Codel}
+use Rattle.model.specs.Tables.{targetOf}
 use Rattle.model.specs.declared.Step.{Step}
 use Rattle.model.specs.declared.Step.the-variants.{Wait, St, Sm, Lm, Ia, Ea, Cx, Fa, Fm}
 use Rattle.model.specs.declared.Line.{Line}
 use Rattle.model.specs.declared.Line.the-variants.{Is, Bad}
-use Rattle.log.specs.declared.Got.{Got}
-use Rattle.log.specs.declared.Got.the-variants as got
-
--- "Numbers are decimal, one to ten digits"
-abbrev pub mostDigits : ℕ
-mostDigits = 10
-
-abbrev pub etherValue : ℕ
-etherValue = 10000000000
 
 -- 11: "line over 63 bytes with its newline"
 abbrev pub longestLine : ℕ
@@ -35,15 +26,15 @@ longestLine = 63
 unfoldable pub stepWords : List ℕ
 stepWords = 119 ∷ 97 ∷ 105 ∷ 116 ∷ 9 ∷ 115 ∷ 116 ∷ 9 ∷ 115 ∷ 109 ∷ 9 ∷ 108 ∷ 109 ∷ 9 ∷ 105 ∷ 97 ∷ 9 ∷ 101 ∷ 97 ∷ 9 ∷ 99 ∷ 120 ∷ 9 ∷ 102 ∷ 97 ∷ 9 ∷ 102 ∷ 109 ∷ []
 
-unfoldable pub etherWord : List ℕ
-etherWord = 101 ∷ 116 ∷ 104 ∷ 101 ∷ 114 ∷ []
-
--- a field as a number, as a set
+-- a field as a number, as a set, as a codel or `ether`
 abbrev pub aNumber : List ℕ → Number
 aNumber p = readNumber mostDigits p
 
 abbrev pub aSet : List ℕ → Number
 aSet p = readSet setDigits p
+
+abbrev pub aPlace : List ℕ → Number
+aPlace p = readTarget p
 
 -- where a field has good form, what follows from its value
 abbrev pub given : Number → (ℕ → Line) → Line
@@ -74,21 +65,15 @@ managerLine ps =
     headed aSet qs λ n rs.
     given (only aSet rs) (λ r. Is (Sm t n r))
 
--- `fa` A target: a codel's number or `ether`, told here as the number past every other
-abbrev pub aPlace : List ℕ → Number
-aPlace p = pick (sameList p etherWord) (number.Is etherValue) (aNumber p)
-
 -- a field by the code of its form
 abbrev pub byForm : ℕ → List ℕ → Number
 byForm form p = pick (eqb form 0) (aNumber p) (pick (eqb form 1) (aSet p) (aPlace p))
 
-abbrev pub placeOf : ℕ → Place
-placeOf v = pick (eqb v etherValue) Ether (Codel v)
-
+-- `fa` A target
 abbrev pub leavingLine : List (List ℕ) → Line
 leavingLine ps =
     headed aNumber ps λ a qs.
-    given (only aPlace qs) (λ c. Is (Fa a (placeOf c)))
+    given (only aPlace qs) (λ c. Is (Fa a (targetOf c)))
 
 -- the steps of one number and of two, by their words' places
 abbrev pub oneOf : ℕ → ℕ → Step
@@ -121,13 +106,3 @@ readStep s = pick (ltb longestLine (length s + 1)) Bad (stepIn (splitOn 9 s))
 -- what the bytes of one line say, its newline with them: "line over 63 bytes with its newline, line without newline, or not a step"
 unfoldable pub readLine : List ℕ → Line
 readLine s = pick (eqb (firstAt s 0 10 + 1) (length s)) (readStep (take (length s - 1) s)) Bad
-
--- the field behind the tab at a place of a line, and where it ends
-abbrev pub gotAt : Number → ℕ → Got
-gotAt (number.Is v) e = got.Is v e
-gotAt number.Bad e = got.Bad
-
-abbrev pub headOf : (List ℕ → Number) → List ℕ → ℕ → Got
-headOf form s at =
-    pick (leb (length s) at) got.Bad
-    (gotAt (form (take (firstAt s (at + 1) 9 - (at + 1)) (drop (at + 1) s))) (firstAt s (at + 1) 9))

@@ -5,21 +5,18 @@ ghost use Prim.Native.Nat.{_+_, _≤_, _<_};
 ghost use lib.ListN.{length, take};
 ghost use Rattle.text.specs.Parts.{partsFrom};
 ghost use Rattle.text.specs.Words.{wordIn};
-ghost use Rattle.log.specs.Lines.{stepWords, byForm, placeOf, only, oneOf, twoOf, headOf, twoNumbers, managerLine, leavingLine, onWord, readStep, readLine};
+ghost use Rattle.text.specs.Fields.{behind};
+ghost use Rattle.model.specs.Tables.{targetOf};
+ghost use Rattle.log.specs.Lines.{stepWords, byForm, only, oneOf, twoOf, twoNumbers, managerLine, leavingLine, onWord, readStep, readLine};
 use model::Line;
 use model::Place;
 use model::Step;
+use text::Got;
 use text::Number;
 use text::Word;
 
 // The longest line, with its newline.
 pub const LONGEST_LINE: usize = 63;
-
-// How many digits a number has at most.
-const MOST_DIGITS: usize = 10;
-
-// `ether` where a codel may stand.
-const ETHER: u64 = 10000000000;
 
 // The codes of a field's forms: a number, a set, a place.
 const DECIMAL: u8 = 0;
@@ -27,12 +24,6 @@ const DECIMAL: u8 = 0;
 const HEX: u8 = 1;
 
 const TARGET: u8 = 2;
-
-// A field's value and where it ends, or bad form.
-enum Got {
-    Is(u64, usize),
-    Bad,
-}
 
 // The step word of two letters.
 fn two_letters(x: u8, y: u8) -> Word
@@ -88,15 +79,12 @@ fn read_form(p: &[u8], form: u8) -> Number
     ensures { λ r. ⌜ r ≡ byForm form (now (p .entry)) ⌝ }
 {
     if form == DECIMAL {
-        return text::read_number(p, MOST_DIGITS);
+        return text::read_number(p, text::MOST_DIGITS);
     }
     if form == HEX {
         return text::read_set(p);
     }
-    if text::same(p, b"ether") {
-        return Number::Is(ETHER);
-    }
-    text::read_number(p, MOST_DIGITS)
+    text::read_target(p)
 }
 
 // What the only field behind the tab at a place says.
@@ -114,7 +102,7 @@ fn only_field(line: &[u8], at: usize, form: u8) -> Number
 // What the field behind the tab at a place says, and where it ends.
 fn head_field(line: &[u8], at: usize, form: u8) -> Got
     requires { ⌜ at ≤ length (now line) ⌝ }
-    ensures { λ r. ⌜ r ≡ headOf (byForm form) (now (line .entry)) at ⌝ }
+    ensures { λ r. ⌜ r ≡ behind (byForm form) (now (line .entry)) at ⌝ }
 {
     if line.len() <= at {
         return Got::Bad;
@@ -165,9 +153,9 @@ fn read_manager(line: &[u8], at: usize) -> Line
 
 // A codel's number or ether.
 fn place_of(v: u64) -> Place
-    ensures { λ r. ⌜ r ≡ placeOf v ⌝ }
+    ensures { λ r. ⌜ r ≡ targetOf v ⌝ }
 {
-    if v == ETHER {
+    if v == text::ETHER {
         return Place::Ether;
     }
     Place::Codel(v as usize)

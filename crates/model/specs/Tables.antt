@@ -2,6 +2,8 @@
 use mathlib.Core.Bool.{Bool, true, false, not}
 use Prim.Native.Nat.{ℕ}
 use lib.Dec.{eqb, ltb}
+use Rattle.text.specs.Parts.{pick}
+use Rattle.text.specs.Fields.{etherValue}
 use Rattle.model.specs.Tests.{_and_, sameBool, each, some}
 use Rattle.model.specs.declared.Place.{Place}
 use Rattle.model.specs.declared.Place.the-variants.{Ether, Codel}
@@ -32,6 +34,10 @@ pub record Table : Type 0 where
   pub limit : ℕ → ℕ
   pub edge : ℕ → EdgeRow
   pub mutex : ℕ → MutexRow
+
+-- a codel's number, or `ether`, as a place
+abbrev pub targetOf : ℕ → Place
+targetOf v = pick (eqb v etherValue) Ether (Codel v)
 
 -- places
 abbrev pub isEther : Place → Bool

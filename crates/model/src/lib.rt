@@ -7,6 +7,21 @@ pub const MOST_TASKS: usize = 16;
 // How many activities a table may have.
 pub const MOST_ACTS: usize = 64;
 
+// How many codels a table may have.
+pub const MOST_CODELS: usize = 256;
+
+// How many edges a table may have.
+pub const MOST_EDGES: usize = 512;
+
+// How many mutex rows a table may have.
+pub const MOST_MUTEXES: usize = 512;
+
+// "Period, keep and limit are 1 to 1,000,000,000"; so is the d of a wait.
+pub const MOST_TICKS: u64 = 1000000000;
+
+// "date at most 1,000,000,000,000"
+pub const CEILING: u64 = 1000000000000;
+
 // Where an activity is, or where an edge or a step leads: ether or a codel.
 pub enum Place {
     Ether,

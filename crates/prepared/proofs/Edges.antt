@@ -9,12 +9,12 @@ use lib.Dec.{T, eqb, ltb, ltb→lt, lt→ltb}
 use borrow.Author.Tests.{lt-ltb, eq-eqb, ne-eqb, eqb-true, eqb-false}
 use mir.Syntax.{w32}
 use mir.Val.{Fits}
+use Rattle.text.specs.Fields.{etherValue}
 use Rattle.text.proofs.Picks.{cases}
 use Rattle.row.specs.Kinds.{mostOf, fieldsOf, formOf}
-use Rattle.row.specs.Row.{etherValue}
-use Rattle.table.specs.Tables.{baseOf, etherSlot, widened, shown, targetOf, tableOf}
+use Rattle.table.specs.Tables.{baseOf, etherSlot, widened, shown, tableOf}
 use Rattle.model.specs.Tests.{_and_, sameBool}
-use Rattle.model.specs.Tables.{samePlace, known, edgeIs, hasEdge}
+use Rattle.model.specs.Tables.{samePlace, known, edgeIs, hasEdge, targetOf}
 use Rattle.model.specs.declared.Place.{Place}
 use Rattle.model.specs.declared.Place.the-variants.{Ether, Codel}
 use Rattle.prepared.specs.Prepared.{tableIn, beginOf, endOf, edgesAt, small, slotIn, Prepared}

@@ -8,13 +8,11 @@ use native.Mathlib.Omega.{arith}
 use lib.ListN.{getD}
 use lib.Dec.{T, eqb, eqb→eq}
 use borrow.Author.Tests.{eq-eqb, ne-eqb}
-use Rattle.row.specs.Kinds.{mostOf, fieldsOf, formOf}
-use Rattle.table.specs.Tables.{baseOf, tableOf}
 use Rattle.model.specs.Tests.{_and_, _or_}
 use Rattle.model.specs.Tables.{Table}
 use Rattle.model.proofs.Tests.{true-T, same-test, and-i, and-l, and-r, or-l, or-r, or-cases, some-at, some-mk}
 use Rattle.prepared.specs.Prepared.{tableIn, pairsFromAt, pairsEndAt, Prepared, conflict}
-use Rattle.prepared.proofs.Stored.{number-at, shape, most-codels, most-mutexes}
+use Rattle.prepared.proofs.Stored.{shape, upper-at}
 use Rattle.prepared.proofs.Walks.{Passed, found, absent}
 
 -- either codel may be named first
@@ -54,9 +52,8 @@ module _ (rows : List ℕ) (hi m x : ℕ) (e : x ≡ getD rows (2544 + 3 * m + 1
 
 module _ {rows index : List ℕ} (P : Prepared rows index) (lo hi : ℕ) (l : lo ≤ hi) where
   pair-row : (m : ℕ) → m < tableIn rows index .nmutex → ((eqb (tableIn rows index .mutex m .lo) lo and eqb (tableIn rows index .mutex m .hi) hi) or (eqb (tableIn rows index .mutex m .lo) hi and eqb (tableIn rows index .mutex m .hi) lo)) ≡ (eqb (tableIn rows index .mutex m .lo) lo and pairHit rows hi m)
-  unfolding tableOf mostOf fieldsOf formOf baseOf
   pair-row m h =
-      let x : getD rows (2544 + 3 * m + 1) 0 ≡ tableIn rows index .mutex m .hi = number-at rows 4 m 1 (2544 + 3 * m + 1) _ (omega (arith, most-mutexes P)) (omega arith) refl (omega (arith, most-codels P, shape P .mutex m h .1)) refl in
+      let x : getD rows (2544 + 3 * m + 1) 0 ≡ tableIn rows index .mutex m .hi = upper-at _ _ (P .formed) m _ h refl in
       rw x (rising-pair _ _ lo hi (shape P .rising m h) l)
 
   -- the walk over the mutex rows of the smaller codel

@@ -11,11 +11,12 @@ use borrow.Author.Tests.{lt-ltb, eq-eqb, ne-eqb}
 use mir.Syntax.{w32}
 use mir.Val.{Fits}
 use Rattle.text.specs.Parts.{pick}
+use Rattle.text.specs.Fields.{etherValue}
 use Rattle.row.specs.Kinds.{mostOf, fieldsOf, formOf, aNumber}
-use Rattle.row.specs.Row.{etherValue}
-use Rattle.table.specs.Tables.{baseOf, slotOf, etherSlot, widened, shown, fieldOf, targetOf, tableOf}
+use Rattle.table.specs.Tables.{baseOf, slotOf, etherSlot, widened, shown, fieldOf, made, tableOf}
 use Rattle.model.specs.Limits.{mostTasks, mostActs, mostCodels, mostEdges, mostMutexes, mostTicks}
-use Rattle.model.specs.Tables.{isStart}
+use Rattle.model.specs.Tables.{Table, isStart, targetOf}
+use Rattle.model.specs.Rows.{wellformed}
 use Rattle.model.specs.Rules.{stopOf}
 use Rattle.model.specs.declared.Place.the-variants.{Ether, Codel}
 use Rattle.model.proofs.Tests.{true-T}
@@ -47,10 +48,48 @@ number-at rows k i j s x h p f m e =
     let q : fieldOf rows k i j ≡ pick (eqb (getD rows s 0) etherSlot) etherValue (getD rows s 0) = field-at rows k i j s h p ∙ rw f in
     rw q (e ∙ plain (getD rows s 0) (eqb (getD rows s 0) etherSlot) (rw q at m))
 
+-- the stored numbers of a well-formed table
+module _ (counts rows : List ℕ) (w : wellformed (tableOf (made counts rows)) ≡ true) where
+  abbrev K : Table
+  K = tableOf (made counts rows)
+
+  -- what follows from its being well formed
+  pub shape-of : Formed K
+  shape-of = formed K (true-T _ w)
+
+  -- the numbers of a task's row, an activity's, a codel's and a mutex row's
+  pub period-at : (t x : ℕ) → t < K .ntasks → x ≡ getD rows (3 * t) 0 → x ≡ K .period t
+  unfolding tableOf mostOf fieldsOf formOf baseOf
+  period-at t x h = number-at rows 0 t 0 (3 * t) x (omega (arith, shape-of .fits .0)) (omega arith) refl (shape-of .periodHigh t h)
+
+  pub keep-at : (t x : ℕ) → t < K .ntasks → x ≡ getD rows (3 * t + 1) 0 → x ≡ K .keep t
+  unfolding tableOf mostOf fieldsOf formOf baseOf
+  keep-at t x h = number-at rows 0 t 1 (3 * t + 1) x (omega (arith, shape-of .fits .0)) (omega arith) refl (shape-of .keepHigh t h)
+
+  pub task-at : (a x : ℕ) → a < K .nacts → x ≡ getD rows (48 + 3 * a) 0 → x ≡ K .task a
+  unfolding tableOf mostOf fieldsOf formOf baseOf
+  task-at a x h = number-at rows 1 a 0 (48 + 3 * a) x (omega (arith, shape-of .fits .1)) (omega arith) refl (omega (arith, shape-of .fits .0, shape-of .task a h))
+
+  pub owner-at : (c x : ℕ) → c < K .ncodels → x ≡ getD rows (240 + 3 * c) 0 → x ≡ K .owner c
+  unfolding tableOf mostOf fieldsOf formOf baseOf
+  owner-at c x h = number-at rows 2 c 0 (240 + 3 * c) x (omega (arith, shape-of .fits .2)) (omega arith) refl (omega (arith, shape-of .fits .1, shape-of .owner c h))
+
+  pub limit-at : (c x : ℕ) → c < K .ncodels → x ≡ getD rows (240 + 3 * c + 2) 0 → x ≡ K .limit c
+  unfolding tableOf mostOf fieldsOf formOf baseOf
+  limit-at c x h = number-at rows 2 c 2 (240 + 3 * c + 2) x (omega (arith, shape-of .fits .2)) (omega arith) refl (shape-of .limitHigh c h)
+
+  pub lower-at : (m x : ℕ) → m < K .nmutex → x ≡ getD rows (2544 + 3 * m) 0 → x ≡ K .mutex m .lo
+  unfolding tableOf mostOf fieldsOf formOf baseOf
+  lower-at m x h = number-at rows 4 m 0 (2544 + 3 * m) x (omega (arith, shape-of .fits .4)) (omega arith) refl (omega (arith, shape-of .fits .2, shape-of .mutex m h .0))
+
+  pub upper-at : (m x : ℕ) → m < K .nmutex → x ≡ getD rows (2544 + 3 * m + 1) 0 → x ≡ K .mutex m .hi
+  unfolding tableOf mostOf fieldsOf formOf baseOf
+  upper-at m x h = number-at rows 4 m 1 (2544 + 3 * m + 1) x (omega (arith, shape-of .fits .4)) (omega arith) refl (omega (arith, shape-of .fits .2, shape-of .mutex m h .1))
+
 module _ {rows index : List ℕ} (P : Prepared rows index) where
   -- what follows from a prepared table's being well formed
   pub shape : Formed (tableIn rows index)
-  shape = formed (tableIn rows index) (true-T _ (P .formed))
+  shape = shape-of _ _ (P .formed)
 
   -- no kind has more rows than there is room for
   pub most-tasks : tableIn rows index .ntasks ≤ mostTasks
@@ -67,35 +106,6 @@ module _ {rows index : List ℕ} (P : Prepared rows index) where
 
   pub most-mutexes : tableIn rows index .nmutex ≤ mostMutexes
   most-mutexes = shape .fits .4
-
-  -- the numbers of a task's row, an activity's, a codel's and a mutex row's
-  pub period-at : (t x : ℕ) → t < tableIn rows index .ntasks → x ≡ getD rows (3 * t) 0 → x ≡ tableIn rows index .period t
-  unfolding tableOf mostOf fieldsOf formOf baseOf
-  period-at t x h = number-at rows 0 t 0 (3 * t) x (omega (arith, most-tasks)) (omega arith) refl (shape .periodHigh t h)
-
-  pub keep-at : (t x : ℕ) → t < tableIn rows index .ntasks → x ≡ getD rows (3 * t + 1) 0 → x ≡ tableIn rows index .keep t
-  unfolding tableOf mostOf fieldsOf formOf baseOf
-  keep-at t x h = number-at rows 0 t 1 (3 * t + 1) x (omega (arith, most-tasks)) (omega arith) refl (shape .keepHigh t h)
-
-  pub task-at : (a x : ℕ) → a < tableIn rows index .nacts → x ≡ getD rows (48 + 3 * a) 0 → x ≡ tableIn rows index .task a
-  unfolding tableOf mostOf fieldsOf formOf baseOf
-  task-at a x h = number-at rows 1 a 0 (48 + 3 * a) x (omega (arith, most-acts)) (omega arith) refl (omega (arith, most-tasks, shape .task a h))
-
-  pub owner-at : (c x : ℕ) → c < tableIn rows index .ncodels → x ≡ getD rows (240 + 3 * c) 0 → x ≡ tableIn rows index .owner c
-  unfolding tableOf mostOf fieldsOf formOf baseOf
-  owner-at c x h = number-at rows 2 c 0 (240 + 3 * c) x (omega (arith, most-codels)) (omega arith) refl (omega (arith, most-acts, shape .owner c h))
-
-  pub limit-at : (c x : ℕ) → c < tableIn rows index .ncodels → x ≡ getD rows (240 + 3 * c + 2) 0 → x ≡ tableIn rows index .limit c
-  unfolding tableOf mostOf fieldsOf formOf baseOf
-  limit-at c x h = number-at rows 2 c 2 (240 + 3 * c + 2) x (omega (arith, most-codels)) (omega arith) refl (shape .limitHigh c h)
-
-  pub lower-at : (m x : ℕ) → m < tableIn rows index .nmutex → x ≡ getD rows (2544 + 3 * m) 0 → x ≡ tableIn rows index .mutex m .lo
-  unfolding tableOf mostOf fieldsOf formOf baseOf
-  lower-at m x h = number-at rows 4 m 0 (2544 + 3 * m) x (omega (arith, most-mutexes)) (omega arith) refl (omega (arith, most-codels, shape .mutex m h .0))
-
-  pub upper-at : (m x : ℕ) → m < tableIn rows index .nmutex → x ≡ getD rows (2544 + 3 * m + 1) 0 → x ≡ tableIn rows index .mutex m .hi
-  unfolding tableOf mostOf fieldsOf formOf baseOf
-  upper-at m x h = number-at rows 4 m 1 (2544 + 3 * m + 1) x (omega (arith, most-mutexes)) (omega arith) refl (omega (arith, most-codels, shape .mutex m h .1))
 
   -- where an edge pauses, by its stored target and mode
   module _ (e : ℕ) (h : e < tableIn rows index .nedges) where

@@ -6,7 +6,7 @@ ghost use Rattle.model.specs.Tables.{safe, hasEdge, isStart, known};
 ghost use Rattle.model.specs.Rules.{stopOf};
 ghost use lib.Dec.{T, ltb};
 ghost use Rattle.model.specs.Tests.{sameBool};
-ghost use Rattle.prepared.specs.Prepared.{tableIn, beginOf, endOf, actsAt, edgesAt, small, slotIn, pauseOf, Prepared, conflict};
+ghost use Rattle.prepared.specs.Prepared.{tableIn, beginOf, endOf, actsAt, small, slotIn, pauseOf, Prepared, conflict};
 use model::Place;
 
 // How many numbers an index takes.
@@ -40,10 +40,8 @@ pub const EDGE_ROWS: usize = 1008;
 
 pub const MUTEX_ROWS: usize = 2544;
 
-// `ether` among the stored numbers.
-const ETHER_SLOT: u32 = 4294967295;
-
-fn size(x: u32) -> usize
+// A stored number as a size.
+pub fn size(x: u32) -> usize
     ensures { λ r. ⌜ r ≡ x ⌝ }
 {
     x as usize
@@ -163,15 +161,23 @@ pub fn stop_of(rows: &[u32], index: &[u32], a: usize) -> Place
     Place::Codel(size(c))
 }
 
+// Where the rows that belong to row i begin, by the ends from a place of the index on.
+fn rows_begin(index: &[u32], at: usize, i: usize) -> usize
+    requires { ⌜ at + i < length (now index) ⌝ }
+    ensures { λ r. ⌜ r ≡ beginOf (now (index .entry)) at i ⌝ }
+{
+    if i == 0 {
+        return 0;
+    }
+    size(index[at + (i - 1)])
+}
+
 // Where a task's activities begin.
 pub fn acts_begin(rows: &[u32], index: &[u32], t: usize) -> usize
     requires { ⌜ Prepared (now rows) (now index) × (t < tableIn (now rows) (now index) .ntasks) ⌝ }
     ensures { λ r. ⌜ r ≡ beginOf (now (index .entry)) actsAt t ⌝ }
 {
-    if t == 0 {
-        return 0;
-    }
-    size(index[ACTS + (t - 1)])
+    rows_begin(index, ACTS, t)
 }
 
 // Where a task's activities end.
@@ -191,7 +197,7 @@ pub fn pause_of(rows: &[u32], index: &[u32], e: usize) -> Place
         return Place::Ether;
     }
     let target = rows[EDGE_ROWS + 3 * e + 1];
-    if target == ETHER_SLOT {
+    if target == table::ETHER_SLOT {
         return Place::Ether;
     }
     Place::Codel(size(target))
@@ -219,7 +225,7 @@ fn target_slot(p: Place) -> u32
     ensures { λ r. ⌜ r ≡ slotIn p ⌝ }
 {
     match p {
-        Place::Ether => ETHER_SLOT,
+        Place::Ether => table::ETHER_SLOT,
         Place::Codel(c) => c as u32,
     }
 }
@@ -234,17 +240,6 @@ fn is_mode(x: u32, pause: bool) -> bool
     x == 0
 }
 
-// Where a codel's edges begin.
-fn edges_begin(index: &[u32], c: usize) -> usize
-    requires { ⌜ edgesAt + c < length (now index) ⌝ }
-    ensures { λ r. ⌜ r ≡ beginOf (now (index .entry)) edgesAt c ⌝ }
-{
-    if c == 0 {
-        return 0;
-    }
-    size(index[EDGES + (c - 1)])
-}
-
 // Is there an edge of that mode from a codel to a place?
 pub fn has_edge(rows: &[u32], index: &[u32], c: usize, p: Place, pause: bool) -> bool
     requires { ⌜ Prepared (now rows) (now index) × (c < tableIn (now rows) (now index) .ncodels) × T (known (tableIn (now rows) (now index)) p) ⌝ }
@@ -252,7 +247,7 @@ pub fn has_edge(rows: &[u32], index: &[u32], c: usize, p: Place, pause: bool) ->
 {
     let target = target_slot(p);
     let end = size(index[EDGES + c]);
-    let mut e = edges_begin(index, c);
+    let mut e = rows_begin(index, EDGES, c);
     while e < end {
         if rows[EDGE_ROWS + 3 * e + 1] == target {
             if is_mode(rows[EDGE_ROWS + 3 * e + 2], pause) {

@@ -1,5 +1,5 @@
 -- What the rows of a well-formed table store is what the table says, and the index has room for it.
-use Prim.Native.Nat.{ℕ, zero, suc, _+_, _*_, _≤_, _<_, min}
+use Prim.Native.Nat.{ℕ, _+_, _*_, _≤_, _<_, min}
 use mathlib.Core.List.{List}
 use mathlib.Core.Path.{_≡_, refl}
 use native.Mathlib.Omega.{arith}
@@ -8,37 +8,24 @@ use mir.Syntax.{w32}
 use mir.Val.{Fits}
 use Rattle.text.proofs.Picks.{order}
 use Rattle.row.specs.Kinds.{mostOf, fieldsOf, formOf}
+use Rattle.row.proofs.Tables.{most-within}
 use Rattle.table.specs.Tables.{baseOf, made, shown, fieldOf, tableOf, Counted}
 use Rattle.model.specs.Limits.{mostActs, mostCodels, mostEdges, mostMutexes}
-use Rattle.model.proofs.Tests.{true-T}
-use Rattle.model.proofs.Formed.{Formed, formed}
+use Rattle.model.proofs.Formed.{Formed}
 use Rattle.prepared.specs.Prepared.{edgesAt, actsAt, indexLength}
-use Rattle.prepared.proofs.Stored.{field-at, number-at}
+use Rattle.prepared.proofs.Stored.{field-at, number-at, shape-of, task-at, owner-at, lower-at, upper-at}
 use Rattle.preparing.specs.Filling.{kindPlace, Laid}
 use Rattle.preparing.proofs.Ordered.{ordered}
 use Rattle.preparing.proofs.Noted.{place-past, place-low}
 
--- what holds of each of the five kinds
-pub five : (P : ℕ → Type 0) → P 0 → P 1 → P 2 → P 3 → P 4 → (k : ℕ) → k < 5 → P k
-five P a b c d e zero h = a
-five P a b c d e (suc zero) h = b
-five P a b c d e (suc (suc zero)) h = c
-five P a b c d e (suc (suc (suc zero))) h = d
-five P a b c d e (suc (suc (suc (suc zero)))) h = e
-five P a b c d e (suc (suc (suc (suc (suc k))))) h = absurd (omega arith)
-
-most-low : (k : ℕ) → k < 5 → mostOf k ≤ 512
-unfolding mostOf
-most-low = five (λ k. mostOf k ≤ 512) (omega arith) (omega arith) (omega arith) (omega arith) (omega arith)
-
 -- a count fits a number of the index
 pub few : {counts : List ℕ} → Counted counts → (k : ℕ) → k < 5 → Fits w32 (getD counts k 0)
-few C k h = record { fits = omega (arith, C .most k h, most-low k h) }
+few C k h = record { fits = omega (arith, C .most k h, most-within k) }
 
 module _ {counts rows : List ℕ} (L : Laid counts rows) where
   -- what follows from the table's being well formed
   pub shape : Formed (tableOf (made counts rows))
-  shape = formed (tableOf (made counts rows)) (true-T _ (L .formed))
+  shape = shape-of _ _ (L .formed)
 
   -- there are no more rows than there may be
   pub most-codels : getD counts 2 0 ≤ mostCodels
@@ -49,26 +36,10 @@ module _ {counts rows : List ℕ} (L : Laid counts rows) where
   unfolding tableOf
   most-mutexes = shape .fits .4
 
-  -- the stored number of an activity's task, an edge's source, a codel's activity, a mutex row's codels
-  pub task-cell : (a : ℕ) → a < getD counts 1 0 → getD rows (48 + 3 * a) 0 ≡ tableOf (made counts rows) .task a
-  unfolding tableOf mostOf fieldsOf formOf baseOf
-  task-cell a h = number-at rows 1 a 0 (48 + 3 * a) _ (omega (arith, shape .fits .1)) (omega arith) refl (omega (arith, shape .fits .0, shape .task a h)) refl
-
+  -- the stored number of an edge's source
   pub source-cell : (e : ℕ) → e < getD counts 3 0 → getD rows (1008 + 3 * e) 0 ≡ tableOf (made counts rows) .edge e .source
   unfolding tableOf mostOf fieldsOf formOf baseOf
   source-cell e h = number-at rows 3 e 0 (1008 + 3 * e) _ (omega (arith, shape .fits .3)) (omega arith) refl (omega (arith, shape .fits .2, ordered (tableOf (made counts rows)) (L .formed) .source e h)) refl
-
-  pub owner-cell : (c : ℕ) → c < getD counts 2 0 → getD rows (240 + 3 * c) 0 ≡ tableOf (made counts rows) .owner c
-  unfolding tableOf mostOf fieldsOf formOf baseOf
-  owner-cell c h = number-at rows 2 c 0 (240 + 3 * c) _ (omega (arith, shape .fits .2)) (omega arith) refl (omega (arith, shape .fits .1, shape .owner c h)) refl
-
-  pub lo-cell : (m : ℕ) → m < getD counts 4 0 → getD rows (2544 + 3 * m) 0 ≡ tableOf (made counts rows) .mutex m .lo
-  unfolding tableOf mostOf fieldsOf formOf baseOf
-  lo-cell m h = number-at rows 4 m 0 (2544 + 3 * m) _ (omega (arith, shape .fits .4)) (omega arith) refl (omega (arith, shape .fits .2, shape .mutex m h .0)) refl
-
-  pub hi-cell : (m : ℕ) → m < getD counts 4 0 → getD rows (2544 + 3 * m + 1) 0 ≡ tableOf (made counts rows) .mutex m .hi
-  unfolding tableOf mostOf fieldsOf formOf baseOf
-  hi-cell m h = number-at rows 4 m 1 (2544 + 3 * m + 1) _ (omega (arith, shape .fits .4)) (omega arith) refl (omega (arith, shape .fits .2, shape .mutex m h .1)) refl
 
   -- a stored kind past `main` is `main`
   pub kind-cell : (c a : ℕ) → c < getD counts 2 0 → kindPlace (getD rows (240 + 3 * c + 1) 0) a ≡ kindPlace (tableOf (made counts rows) .kind c) a
@@ -83,7 +54,7 @@ module _ {counts rows : List ℕ} (L : Laid counts rows) where
   -- the rows that a row names are few enough for the index
   pub owner-low : (c x : ℕ) → c < getD counts 2 0 → x ≡ getD rows (240 + 3 * c) 0 → x < mostActs
   unfolding tableOf
-  owner-low c x h e = omega (arith, owner-cell c h, shape .owner c h, shape .fits .1)
+  owner-low c x h e = omega (arith, owner-at counts rows (L .formed) c x h e, shape .owner c h, shape .fits .1)
 
   -- and so is the place of its kind
   pub placed-low : (c a p : ℕ) → c < getD counts 2 0 → a ≡ getD rows (240 + 3 * c) 0 → p ≡ kindPlace (getD rows (240 + 3 * c + 1) 0) a → p < indexLength
@@ -91,11 +62,11 @@ module _ {counts rows : List ℕ} (L : Laid counts rows) where
 
   pub lo-low : (m x : ℕ) → m < getD counts 4 0 → x ≡ getD rows (2544 + 3 * m) 0 → x < mostCodels
   unfolding tableOf
-  lo-low m x h e = omega (arith, lo-cell m h, shape .mutex m h .0, most-codels)
+  lo-low m x h e = omega (arith, lower-at counts rows (L .formed) m x h e, shape .mutex m h .0, most-codels)
 
   pub hi-low : (m x : ℕ) → m < getD counts 4 0 → x ≡ getD rows (2544 + 3 * m + 1) 0 → x < mostCodels
   unfolding tableOf
-  hi-low m x h e = omega (arith, hi-cell m h, shape .mutex m h .1, most-codels)
+  hi-low m x h e = omega (arith, upper-at counts rows (L .formed) m x h e, shape .mutex m h .1, most-codels)
 
   -- the rows that are noted where they end are stored, and there is room for their ends
   pub edges-room : (n : ℕ) → n ≡ indexLength → (getD counts 3 0 ≤ mostEdges) × ((e : ℕ) → e < getD counts 3 0 → (1008 + 3 * e < length rows) × (edgesAt + getD rows (1008 + 3 * e) 0 < n))
@@ -104,4 +75,4 @@ module _ {counts rows : List ℕ} (L : Laid counts rows) where
 
   pub acts-room : (n : ℕ) → n ≡ indexLength → (getD counts 1 0 ≤ mostEdges) × ((a : ℕ) → a < getD counts 1 0 → (48 + 3 * a < length rows) × (actsAt + getD rows (48 + 3 * a) 0 < n))
   unfolding tableOf
-  acts-room n q = (omega (arith, shape .fits .1), λ a h. (omega (arith, L .size, shape .fits .1), omega (arith, task-cell a h, shape .task a h, shape .fits .0)))
+  acts-room n q = (omega (arith, shape .fits .1), λ a h. (omega (arith, L .size, shape .fits .1), omega (arith, task-at counts rows (L .formed) a _ h refl, shape .task a h, shape .fits .0)))

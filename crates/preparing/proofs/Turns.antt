@@ -5,8 +5,9 @@ use mathlib.Core.Path.{_≡_, sym, ap}
 use native.Mathlib.Numerals.{add-one}
 use lib.ListN.{getD, set}
 use Rattle.table.specs.Tables.{made, tableOf}
+use Rattle.prepared.proofs.Stored.{owner-at, lower-at, upper-at}
 use Rattle.preparing.specs.Filling.{filled, ended, kindPlace, kindsNoted, pairNoted, pairsNoted, Laid}
-use Rattle.preparing.proofs.Cells.{owner-cell, kind-cell, lo-cell, hi-cell}
+use Rattle.preparing.proofs.Cells.{kind-cell}
 
 -- one number more, one row more noted where it ends
 module _ (l x : List ℕ) (at : ℕ) where
@@ -21,9 +22,9 @@ module _ (l x : List ℕ) (at : ℕ) where
 -- one codel more, one mutex row more, as they are stored
 module _ {counts rows : List ℕ} (L : Laid counts rows) (l x : List ℕ) where
   pub kinds-more : (c a p : ℕ) → c < getD counts 2 0 → a ≡ getD rows (240 + 3 * c) 0 → p ≡ kindPlace (getD rows (240 + 3 * c + 1) 0) a → x ≡ kindsNoted (tableOf (made counts rows)) l c → set x p c ≡ kindsNoted (tableOf (made counts rows)) l (c + 1)
-  unfolding kindsNoted
-  kinds-more c a p h e f q = rw (f, kind-cell L c a h, e, owner-cell L c h, q, add-one)
+  unfolding kindsNoted tableOf
+  kinds-more c a p h e f q = rw (f, kind-cell L c a h, owner-at counts rows (L .formed) c a h e, q, add-one)
 
   pub pairs-more : (m lo hi : ℕ) → m < getD counts 4 0 → lo ≡ getD rows (2544 + 3 * m) 0 → hi ≡ getD rows (2544 + 3 * m + 1) 0 → x ≡ pairsNoted (tableOf (made counts rows)) l m → pairNoted m lo hi x ≡ pairsNoted (tableOf (made counts rows)) l (m + 1)
-  unfolding pairsNoted
-  pairs-more m lo hi h e f q = rw (e, f, lo-cell L m h, hi-cell L m h, q) (sym (ap (pairsNoted (tableOf (made counts rows)) l) (add-one m)))
+  unfolding pairsNoted tableOf
+  pairs-more m lo hi h e f q = rw (lower-at counts rows (L .formed) m lo h e, upper-at counts rows (L .formed) m hi h f, q) (sym (ap (pairsNoted (tableOf (made counts rows)) l) (add-one m)))

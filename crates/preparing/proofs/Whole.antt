@@ -11,6 +11,7 @@ use Rattle.table.specs.Tables.{slots, made, tableOf}
 use Rattle.table.specs.Checks.{checkTable}
 use Rattle.table.specs.declared.Table as table
 use Rattle.table.specs.declared.Answer.the-variants.{Fine}
+use Rattle.table.proofs.Fields.{five}
 use Rattle.table.proofs.WellFormed.{accepted-wellformed}
 use Rattle.model.specs.Limits.{mostActs, mostCodels}
 use Rattle.model.specs.Tables.{Table, isStart, safe}
@@ -18,13 +19,14 @@ use Rattle.model.specs.Rules.{stopOf}
 use Rattle.model.proofs.Tests.{true-T}
 use Rattle.model.proofs.Formed.{Formed, formed}
 use Rattle.prepared.specs.Prepared.{safeAt, edgesAt, pairsFromAt, pairsEndAt, startsAt, stopsAt, actsAt, indexLength, tableIn, noStop, stopIn, Together, Paired, Prepared}
+use Rattle.prepared.proofs.Stored.{task-at}
 use Rattle.preparing.specs.Filling.{filled, withCounts, ended, nowhere, kindsNoted, pairsNoted, indexOf, Laid}
 use Rattle.preparing.proofs.Stages.{Off, Few, filled-length, filled-off, filled-at, ended-length, ended-off, kinds-length, kinds-off, pairs-length, pairs-off}
 use Rattle.preparing.proofs.Ordered.{Ordered, ordered}
 use Rattle.preparing.proofs.Ends.{ended-same, together}
 use Rattle.preparing.proofs.Noted.{place-in, start-noted, stop-noted}
 use Rattle.preparing.proofs.Pairs.{paired, safe-marked}
-use Rattle.preparing.proofs.Cells.{five, shape, task-cell, source-cell}
+use Rattle.preparing.proofs.Cells.{shape, source-cell}
 
 -- the counts leave every later place
 counts-off : (K : Table) (l : List ℕ) (p : ℕ) → 5 ≤ p → getD (withCounts K l) p 0 ≡ getD l p 0
@@ -225,4 +227,4 @@ module _ {counts rows : List ℕ} (L : Laid counts rows) where
   pub all-filled : (a b c d e f g : List ℕ) → a ≡ withCounts K none → b ≡ filled a safeAt 1 mostCodels → c ≡ filled b stopsAt noStop mostActs → d ≡ ended (λ i. getD rows (1008 + 3 * i) 0) edgesAt c (getD counts 3 0) → e ≡ ended (λ i. getD rows (48 + 3 * i) 0) actsAt d (getD counts 1 0) → f ≡ kindsNoted K e (K .ncodels) → g ≡ pairsNoted K f (K .nmutex) → g ≡ indexOf K
   unfolding indexOf tableOf
   all-filled a b c d e f g p q r s t u v =
-      rw (v, u, t, ended-same (λ i. getD rows (48 + 3 * i) 0) (K .task) actsAt d (getD counts 1 0) (task-cell L), s, ended-same (λ i. getD rows (1008 + 3 * i) 0) (λ i. K .edge i .source) edgesAt c (getD counts 3 0) (source-cell L), r, q, p)
+      rw (v, u, t, ended-same (λ i. getD rows (48 + 3 * i) 0) (K .task) actsAt d (getD counts 1 0) (λ a h. task-at counts rows (L .formed) a _ h refl), s, ended-same (λ i. getD rows (1008 + 3 * i) 0) (λ i. K .edge i .source) edgesAt c (getD counts 3 0) (source-cell L), r, q, p)

@@ -16,12 +16,6 @@ use table::Table;
 // Where a codel that is neither start nor stop is noted.
 const NOWHERE: usize = 7;
 
-fn size(x: u32) -> usize
-    ensures { λ r. ⌜ r ≡ x ⌝ }
-{
-    x as usize
-}
-
 // Makes n numbers from a place on v.
 fn fill(index: &mut [u32], at: usize, v: u32, n: usize)
     requires { ⌜ at + n ≤ length (now index) ⌝ }
@@ -41,7 +35,7 @@ fn note_ends(rows: &[u32], from: usize, n: usize, index: &mut [u32], at: usize)
 {
     let mut e = 0;
     while e < n {
-        let i = size(rows[from + 3 * e]);
+        let i = prepared::size(rows[from + 3 * e]);
         e += 1;
         index[at + i] = e as u32;
     }
@@ -68,7 +62,7 @@ fn note_kinds(rows: &[u32], counts: [usize; 5], index: &mut [u32])
 {
     let mut c = 0;
     while c < counts[2] {
-        let a = size(rows[prepared::CODEL_ROWS + 3 * c]);
+        let a = prepared::size(rows[prepared::CODEL_ROWS + 3 * c]);
         let p = kind_place(rows[prepared::CODEL_ROWS + 3 * c + 1], a);
         index[p] = c as u32;
         c += 1;
@@ -109,8 +103,8 @@ fn note_pairs(rows: &[u32], counts: [usize; 5], index: &mut [u32])
 {
     let mut m = 0;
     while m < counts[4] {
-        let lo = size(rows[prepared::MUTEX_ROWS + 3 * m]);
-        let hi = size(rows[prepared::MUTEX_ROWS + 3 * m + 1]);
+        let lo = prepared::size(rows[prepared::MUTEX_ROWS + 3 * m]);
+        let hi = prepared::size(rows[prepared::MUTEX_ROWS + 3 * m + 1]);
         note_pair(index, m, lo, hi);
         m += 1;
     }
@@ -137,8 +131,13 @@ pub fn index_of(t: Table) -> [u32; INDEX]
     let counts = t.counts;
     let mut index = [0u32; INDEX];
     note_counts(counts, &mut index);
-    fill(&mut index, prepared::SAFE, 1, 256);
-    fill(&mut index, prepared::STOPS, prepared::NO_STOP, 64);
+    fill(&mut index, prepared::SAFE, 1, model::MOST_CODELS);
+    fill(
+        &mut index,
+        prepared::STOPS,
+        prepared::NO_STOP,
+        model::MOST_ACTS,
+    );
     note_ends(
         &rows,
         prepared::EDGE_ROWS,

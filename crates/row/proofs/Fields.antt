@@ -1,5 +1,5 @@
 -- One field: what is written of a value reads back as it, and what reads as a value is what is written of it; and how long that is.
-use Prim.Native.Nat.{ℕ, _+_, _^_, _≤_, _<_}
+use Prim.Native.Nat.{ℕ, _≤_, _<_}
 use mathlib.Core.Path.{_≡_, refl, sym, ap}
 use mathlib.Core.List.{List}
 use mathlib.Core.Bool.{true, false}
@@ -9,8 +9,9 @@ use lib.Dec.{eqb}
 use borrow.Author.Tests.{lt-ltb, le-leb, ne-eqb, ltb-true, leb-true, eqb-true, eqb-false}
 use Rattle.text.specs.Parts.{splitOn, free}
 use Rattle.text.specs.Digits.{valueOf}
-use Rattle.text.specs.Number.{readNumber, widthOf, digits}
+use Rattle.text.specs.Number.{readNumber, digits}
 use Rattle.text.specs.Words.{sameList, wordIn, wordAt, distinct}
+use Rattle.text.specs.Fields.{mostDigits, etherValue, etherWord}
 use Rattle.text.specs.declared.Number.the-variants as number
 use Rattle.text.specs.declared.Word.{Word}
 use Rattle.text.specs.declared.Word.the-variants as word
@@ -18,8 +19,8 @@ use Rattle.text.proofs.Picks.{cases, order}
 use Rattle.text.proofs.Digits.{bad-is}
 use Rattle.text.proofs.Numbers.{width-within, width-bound, length-digits, digits-free, read-digits, digits-read, number-below}
 use Rattle.text.proofs.Words.{same-self, same-list, word-read, word-written}
-use Rattle.row.specs.Kinds.{kindWords, modeWords, etherWord, noField, aNumber, aKind, aMode, aTarget}
-use Rattle.row.specs.Row.{mostDigits, etherValue, placeIn, readForm, valueText, tabbed, formOk}
+use Rattle.row.specs.Kinds.{kindWords, modeWords, noField, aNumber, aKind, aMode}
+use Rattle.row.specs.Row.{placeIn, readForm, valueText, formOk}
 use Rattle.row.proofs.Tables.{free-high, word-free, word-within}
 
 -- a number is read where it has at most ten digits
@@ -90,37 +91,15 @@ value-free c form v h =
     (λ g. cases (eqb v etherValue) (λ i. rw (e, f, g, i) (free-high c etherWord h refl))
     (λ i. rw (e, f, g, i) (digits-free c v h)))))
 
--- a value is no longer than its digits would be, or than a word
-value-wide : (form v w : ℕ) → widthOf v ≤ w → 5 ≤ w → length (valueText form v) ≤ w
+-- no value is longer than twenty
+pub value-within : (form v : ℕ) → length (valueText form v) ≤ 20
 unfolding kindWords modeWords etherWord
-value-wide form v w h l =
-    let n : length (digits v) ≤ w = rw length-digits h in
+value-within form v =
+    let n : length (digits v) ≤ 20 = rw length-digits (width-within v .1) in
     cases (eqb form aNumber) (λ e. rw e n)
     (λ e. cases (eqb form aKind) (λ f. rw (e, f) (omega (arith, word-within 5 kindWords v refl)))
     (λ f. cases (eqb form aMode) (λ g. rw (e, f, g) (omega (arith, word-within 5 modeWords v refl)))
-    (λ g. cases (eqb v etherValue) (λ i. rw (e, f, g, i) l) (λ i. rw (e, f, g, i) n))))
-
--- a number below a power of ten has no more digits than that
-pub number-width : (v w : ℕ) → v < 10 ^ w → 1 ≤ w → length (valueText aNumber v) ≤ w
-number-width v w h l = rw length-digits (width-bound v w h l)
-
--- nor is a value of any form longer, where that is five or more
-pub value-width : (form v w : ℕ) → v < 10 ^ w → 5 ≤ w → length (valueText form v) ≤ w
-value-width form v w h l = value-wide form v w (width-bound v w h (omega arith)) l
-
--- `ether` has five letters
-pub ether-width : length (valueText aTarget etherValue) ≡ 5
-unfolding etherWord
-ether-width = refl
-
--- no value at all is longer than twenty
-pub value-within : (form v : ℕ) → length (valueText form v) ≤ 20
-value-within form v = value-wide form v 20 (width-within v .1) (omega arith)
-
--- a field with its tab is one longer than its value at most
-pub tabbed-width : (form v w : ℕ) → length (valueText form v) ≤ w → length (tabbed form v) ≤ w + 1
-unfolding tabbed
-tabbed-width form v w h = cases (eqb form noField) (λ e. rw e (omega arith)) (λ e. rw e (omega arith))
+    (λ g. cases (eqb v etherValue) (λ i. rw (e, f, g, i) (omega arith)) (λ i. rw (e, f, g, i) n))))
 
 -- no value that a form can say is above `ether`
 pub value-most : (form v : ℕ) → formOk form v ≡ true → v ≤ etherValue

@@ -9,6 +9,7 @@ use lib.Dec.{ltb, eqb}
 use borrow.Author.Tests.{lt-ltb, ltb-true, eqb-true}
 use Rattle.text.specs.Parts.{splitOn, joinOn, free, allFree}
 use Rattle.text.specs.Words.{wordIn, wordAt}
+use Rattle.text.specs.Fields.{etherValue}
 use Rattle.text.specs.declared.Number.{Number}
 use Rattle.text.specs.declared.Number.the-variants as number
 use Rattle.text.specs.declared.Word.{Word}
@@ -18,7 +19,7 @@ use Rattle.text.proofs.Picks.{cases, picked, false-true}
 use Rattle.text.proofs.Parts.{split-join, split-cut, join-split}
 use Rattle.text.proofs.Words.{word-read, word-written}
 use Rattle.row.specs.Kinds.{rowWords, noField, formOf}
-use Rattle.row.specs.Row.{etherValue, readForm, onNumber, withField, atEnd, fieldsIn, onWord, rowIn, readRow, fieldText, rowParts, rowLine, rowText, tabbed, formOk, rowOk}
+use Rattle.row.specs.Row.{readForm, onNumber, withField, atEnd, fieldsIn, onWord, rowIn, readRow, fieldText, rowParts, rowLine, rowText, tabbed, formOk, rowOk}
 use Rattle.row.specs.declared.Row.{Row}
 use Rattle.row.specs.declared.Line.{Line}
 use Rattle.row.specs.declared.Line.the-variants.{Is, Bad}

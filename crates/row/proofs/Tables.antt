@@ -5,11 +5,11 @@ use mathlib.Core.List.{List, [], _∷_}
 use mathlib.Core.Bool.{Bool, true, false}
 use native.Mathlib.Omega.{arith}
 use lib.ListN.{length, getD, List·getD-eq-default}
-use lib.Dec.{leb, ltb}
+use lib.Dec.{leb}
 use borrow.Author.Tests.{le-ltb, le-leb, leb-true, ne-eqb}
 use Rattle.text.specs.Parts.{pick, splitOn, free}
 use Rattle.text.specs.Words.{wordAt}
-use Rattle.text.proofs.Picks.{cases, picked, false-true}
+use Rattle.text.proofs.Picks.{picked, false-true}
 use Rattle.row.specs.Kinds.{fieldsOf, mostOf, formOf}
 
 -- the test holds of every entry
@@ -41,11 +41,6 @@ most-past k h = rw List·getD-eq-default
 pub fields-within : (k : ℕ) → fieldsOf k ≤ 3
 unfolding fieldsOf
 fields-within k = search (below)
-
--- no field has another form than the five
-pub form-within : (k j : ℕ) → formOf k j ≤ 4
-unfolding formOf
-form-within k j = cases (ltb j (fieldsOf k)) (λ e. rw e (search (below))) (λ e. rw e (omega arith))
 
 -- past a kind's last field there is none
 pub form-past : (k j : ℕ) → fieldsOf k ≤ j → 0 ≡ formOf k j

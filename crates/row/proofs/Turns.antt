@@ -8,26 +8,27 @@ use native.Mathlib.Numerals.{add-one}
 use lib.ListN.{length, take, drop, set, length-set, length-append}
 use lib.Seq.{sets, length-sets}
 use lib.Dec.{leb, eqb}
-use borrow.Author.Tests.{eq-eqb, ne-eqb, le-leb, lt-leb, leb-true, leb-false}
+use borrow.Author.Tests.{eq-eqb, ne-eqb}
 use Rattle.text.specs.Parts.{partsFrom, firstAt}
 use Rattle.text.specs.Number.{readNumber, digits}
-use Rattle.text.specs.Words.{sameList, wordIn, wordAt}
+use Rattle.text.specs.Words.{wordIn, wordAt}
+use Rattle.text.specs.Fields.{mostDigits, etherValue, etherWord, readTarget, gotAt, behind}
 use Rattle.text.specs.Put.{Put}
 use Rattle.text.specs.declared.Number.{Number}
 use Rattle.text.specs.declared.Number.the-variants as number
 use Rattle.text.specs.declared.Word.{Word}
 use Rattle.text.specs.declared.Word.the-variants as word
+use Rattle.text.specs.declared.Got.{Got}
+use Rattle.text.specs.declared.Got.the-variants as got
 use Rattle.text.proofs.Picks.{cases}
-use Rattle.text.proofs.Parts.{firstAt-le, parts-cut, parts-none, parts-all}
+use Rattle.text.proofs.Parts.{parts-cut, parts-none, parts-all}
 use Rattle.text.proofs.Puts.{put-fits, laid-length, sets-append}
-use Rattle.text.proofs.Turns.{put-none, put-room, put-whole, part-ends}
-use Rattle.row.specs.Kinds.{rowWords, kindWords, modeWords, etherWord, noField, aNumber, aKind, aMode, formOf}
-use Rattle.row.specs.Row.{mostDigits, etherValue, placeIn, readForm, onNumber, withField, atEnd, onWord, rowIn, readRow, gotAt, fieldBehind, valueText, tabbed, rowLine, rowText}
+use Rattle.text.proofs.Turns.{put-none, put-room, put-whole, behind-parts, behind-ends}
+use Rattle.row.specs.Kinds.{rowWords, kindWords, modeWords, noField, aNumber, aKind, aMode, formOf}
+use Rattle.row.specs.Row.{placeIn, readForm, onNumber, withField, atEnd, onWord, rowIn, readRow, fieldBehind, valueText, tabbed, rowLine, rowText}
 use Rattle.row.specs.declared.Row.{Row}
 use Rattle.row.specs.declared.Line.{Line}
 use Rattle.row.specs.declared.Line.the-variants.{Is, Bad}
-use Rattle.row.specs.declared.Got.{Got}
-use Rattle.row.specs.declared.Got.the-variants as got
 use Rattle.row.proofs.Rows.{with-none, row-line, row-length}
 
 -- what a field of a form says
@@ -46,14 +47,9 @@ module _ (form : ℕ) (p : List ℕ) where
       unfolding readForm
       read-mode w n e f c = rw (ne-eqb _ _ a, ne-eqb _ _ b, eq-eqb _ _ c, ← e) f
 
-      module _ (c : form ≡ aMode → ⊥) (t : Bool) (q : t ≡ sameList p etherWord) where
-        pub read-ether : t ≡ true → number.Is etherValue ≡ readForm form p
-        unfolding readForm
-        read-ether y = rw (ne-eqb _ _ a, ne-eqb _ _ b, ne-eqb _ _ c, ← q, y)
-
-        pub read-codel : (n : Number) → n ≡ readNumber mostDigits p → t ≡ false → n ≡ readForm form p
-        unfolding readForm
-        read-codel n e y = rw (ne-eqb _ _ a, ne-eqb _ _ b, ne-eqb _ _ c, ← q, y) e
+      pub read-target : (n : Number) → n ≡ readTarget p → (form ≡ aMode → ⊥) → n ≡ readForm form p
+      unfolding readForm
+      read-target n e c = rw (ne-eqb _ _ a, ne-eqb _ _ b, ne-eqb _ _ c) e
 
 -- how a value of a form is written
 module _ (form v : ℕ) where
@@ -90,59 +86,34 @@ module _ (form : ℕ) (s : List ℕ) (at : ℕ) where
   unfolding fieldBehind
   behind-none f = rw (eq-eqb _ _ f)
 
-  module _ (f : form ≡ noField → ⊥) where
-    pub behind-end : length s ≤ at → got.Bad ≡ fieldBehind form s at
-    unfolding fieldBehind
-    behind-end h = rw (ne-eqb _ _ f, le-leb _ _ h)
-
-    module _ (h : at < length s) (e : ℕ) (p : e ≡ firstAt s (at + 1) 9) (n : Number) (q : n ≡ readForm form (take (e - (at + 1)) (drop (at + 1) s))) where
-      behind : gotAt n e ≡ fieldBehind form s at
-      unfolding fieldBehind
-      behind = rw (ne-eqb _ _ f, lt-leb _ _ h, ← p, ← q)
-
-      pub behind-bad : n ≡ number.Bad → got.Bad ≡ fieldBehind form s at
-      behind-bad u = rw (← behind, u)
-
-      pub behind-is : (v : ℕ) → n ≡ number.Is v → got.Is v e ≡ fieldBehind form s at
-      behind-is v u = rw (← behind, u)
+  pub behind-some : (g : Got) → (form ≡ noField → ⊥) → g ≡ behind (readForm form) s at → g ≡ fieldBehind form s at
+  unfolding fieldBehind
+  behind-some g f q = rw (ne-eqb _ _ f) q
 
 -- a field taken from the parts is the field behind the place where they start
 abbrev onGot : Got → (ℕ → ℕ → Line) → Line
 onGot (got.Is v e) k = k v e
 onGot got.Bad k = Bad
 
-with-behind : (form : ℕ) (s : List ℕ) (at : ℕ) (k : ℕ → List (List ℕ) → Line) → at ≤ length s
+with-behind : (form : ℕ) (s : List ℕ) (at : ℕ) (k : ℕ → List (List ℕ) → Line)
     → withField form (partsFrom 9 s (at + 1)) k ≡ onGot (fieldBehind form s at) (λ v e. k v (partsFrom 9 s (e + 1)))
 unfolding fieldBehind
-with-behind form s at k h =
+with-behind form s at k =
     cases (eqb form noField)
     (λ f. with-none form (partsFrom 9 s (at + 1)) k f ∙ rw f)
-    (λ f. cases (leb (length s) at)
-    (λ l. let m : length s < at + 1 = omega (arith, leb-true (length s) at l) in rw (parts-none 9 s (at + 1) m, f, l))
-    (λ l. let m : at + 1 ≤ length s = omega (arith, leb-false (length s) at l) in rw (parts-cut 9 s (at + 1) m, f, l) (same (readForm form _) _)))
+    (λ f. behind-parts (readForm form) s at (λ p b. rw (p, f, b)) (λ p e l q b. rw (q, f, b) (same (readForm form p) e)))
   where
     same : (n : Number) (e : ℕ) → onNumber n (λ v. k v (partsFrom 9 s (e + 1))) ≡ onGot (gotAt n e) (λ v x. k v (partsFrom 9 s (x + 1)))
     same (number.Is v) e = refl
     same number.Bad e = refl
 
 -- where a field ends is within the line
-pub behind-ends : (form : ℕ) (s : List ℕ) (at : ℕ) (g : Got) → g ≡ fieldBehind form s at → at ≤ length s → (v e : ℕ) → g ≡ got.Is v e → e ≤ length s
+pub field-ends : (form : ℕ) (s : List ℕ) (at : ℕ) (g : Got) → g ≡ fieldBehind form s at → at ≤ length s → (v e : ℕ) → g ≡ got.Is v e → e ≤ length s
 unfolding fieldBehind
-behind-ends form s at g q h v e u =
-    let b : fieldBehind form s at ≡ got.Is v e = sym q ∙ u in
+field-ends form s at g q h v e u =
     cases (eqb form noField)
-    (λ f. let t : got.Is 0 at ≡ got.Is v e = rw f at b in let z : at ≡ e = cc in omega arith)
-    (λ f. cases (leb (length s) at)
-    (λ l. let t : got.Bad ≡ got.Is v e = rw (f, l) at b in let z : _≡_ {A = ℕ} 0 1 = cc in absurd (omega arith))
-    (λ l. let m : at + 1 ≤ length s = omega (arith, leb-false (length s) at l) in inside (readForm form _) _ (firstAt-le 9 s (at + 1) m .1) (rw (f, l) at b)))
-  where
-    inside : (n : Number) (x : ℕ) → x ≤ length s → gotAt n x ≡ got.Is v e → e ≤ length s
-    inside (number.Is w) x l t = let z : x ≡ e = cc in omega arith
-    inside number.Bad x l t = let z : _≡_ {A = ℕ} 0 1 = cc in absurd (omega arith)
-
--- and where the word ends
-pub word-ends : (s : List ℕ) (w : ℕ) → w ≡ firstAt s 0 9 → w ≤ length s
-word-ends s w f = part-ends s 0 w 9 (omega arith) f
+    (λ f. let t : got.Is 0 at ≡ got.Is v e = rw f at (sym q ∙ u) in let z : at ≡ e = cc in omega arith)
+    (λ f. behind-ends (readForm form) s at g (rw f at q) v e u)
 
 -- what a line says: its word, its three fields, its end
 module _ (s : List ℕ) (w : ℕ) (fw : w ≡ firstAt s 0 9) (x : Word) (ew : x ≡ wordIn rowWords (take (w - 0) (drop 0 s))) where
@@ -155,24 +126,21 @@ module _ (s : List ℕ) (w : ℕ) (fw : w ≡ firstAt s 0 9) (x : Word) (ew : x 
 
   module _ (k : ℕ) (u : x ≡ word.Is k) (f₀ : ℕ) (p₀ : f₀ ≡ formOf k 0) (g₀ : Got) (q₀ : g₀ ≡ fieldBehind f₀ s w) where
     first : readRow s ≡ onGot g₀ λ a e. withField (formOf k 1) (partsFrom 9 s (e + 1)) λ b ps. withField (formOf k 2) ps λ c ps₁. atEnd ps₁ (Is (record { kind = k; a = a; b = b; c = c }))
-    first = opened ∙ rw u (with-behind (formOf k 0) s w _ (word-ends s w fw) ∙ rw (← p₀, ← q₀))
+    first = opened ∙ rw u (with-behind (formOf k 0) s w _ ∙ rw (← p₀, ← q₀))
 
     pub row-first : g₀ ≡ got.Bad → Bad ≡ readRow s
     row-first e = rw (first, e)
 
     module _ (a p : ℕ) (u₀ : g₀ ≡ got.Is a p) (f₁ : ℕ) (p₁ : f₁ ≡ formOf k 1) (g₁ : Got) (q₁ : g₁ ≡ fieldBehind f₁ s p) where
-      first-ends : p ≤ length s
-      first-ends = behind-ends f₀ s w g₀ q₀ (word-ends s w fw) a p u₀
-
       second : readRow s ≡ onGot g₁ λ b e. withField (formOf k 2) (partsFrom 9 s (e + 1)) λ c ps. atEnd ps (Is (record { kind = k; a = a; b = b; c = c }))
-      second = first ∙ rw u₀ (with-behind (formOf k 1) s p _ first-ends ∙ rw (← p₁, ← q₁))
+      second = first ∙ rw u₀ (with-behind (formOf k 1) s p _ ∙ rw (← p₁, ← q₁))
 
       pub row-second : g₁ ≡ got.Bad → Bad ≡ readRow s
       row-second e = rw (second, e)
 
       module _ (b q : ℕ) (u₁ : g₁ ≡ got.Is b q) (f₂ : ℕ) (p₂ : f₂ ≡ formOf k 2) (g₂ : Got) (q₂ : g₂ ≡ fieldBehind f₂ s q) where
         third : readRow s ≡ onGot g₂ λ c e. atEnd (partsFrom 9 s (e + 1)) (Is (record { kind = k; a = a; b = b; c = c }))
-        third = second ∙ rw u₁ (with-behind (formOf k 2) s q _ (behind-ends f₁ s p g₁ q₁ first-ends b q u₁) ∙ rw (← p₂, ← q₂))
+        third = second ∙ rw u₁ (with-behind (formOf k 2) s q _ ∙ rw (← p₂, ← q₂))
 
         pub row-third : g₂ ≡ got.Bad → Bad ≡ readRow s
         row-third e = rw (third, e)

@@ -5,6 +5,7 @@ use mathlib.Core.List.{List, [], _∷_}
 use lib.ListN.{getD}
 use lib.Dec.{ltb}
 use Rattle.text.specs.Parts.{pick}
+use Rattle.model.specs.Limits.{mostTasks, mostActs, mostCodels, mostEdges, mostMutexes}
 
 -- `task`, `act`, `codel`, `edge`, `mutex`, `end`: a row's kind is its place here
 unfoldable pub rowWords : List ℕ
@@ -34,7 +35,7 @@ unfoldable pub fieldsOf : ℕ → ℕ
 fieldsOf k = getD (2 ∷ 1 ∷ 3 ∷ 3 ∷ 2 ∷ 1 ∷ []) k 0
 
 unfoldable pub mostOf : ℕ → ℕ
-mostOf k = getD (16 ∷ 64 ∷ 256 ∷ 512 ∷ 512 ∷ 1 ∷ []) k 0
+mostOf k = getD (mostTasks ∷ mostActs ∷ mostCodels ∷ mostEdges ∷ mostMutexes ∷ 1 ∷ []) k 0
 
 unfoldable pub formOf : ℕ → ℕ → ℕ
 formOf k j =
@@ -48,6 +49,3 @@ kindWords = 115 ∷ 116 ∷ 97 ∷ 114 ∷ 116 ∷ 9 ∷ 115 ∷ 116 ∷ 111 ∷
 
 unfoldable pub modeWords : List ℕ
 modeWords = 114 ∷ 117 ∷ 110 ∷ 9 ∷ 112 ∷ 97 ∷ 117 ∷ 115 ∷ 101 ∷ []
-
-unfoldable pub etherWord : List ℕ
-etherWord = 101 ∷ 116 ∷ 104 ∷ 101 ∷ 114 ∷ []

@@ -1,30 +1,22 @@
 -- One row of a table's text: how it is read, and how it is written.
-use Prim.Native.Nat.{ℕ, _+_, _-_}
+use Prim.Native.Nat.{ℕ}
 use mathlib.Core.List.{List, [], _∷_, _++_}
 use mathlib.Core.Bool.{Bool, false}
-use lib.ListN.{length, take, drop}
 use lib.Dec.{ltb, leb, eqb}
-use Rattle.text.specs.Parts.{pick, splitOn, joinOn, firstAt}
+use Rattle.text.specs.Parts.{pick, splitOn, joinOn}
 use Rattle.text.specs.Number.{readNumber, digits}
-use Rattle.text.specs.Words.{sameList, wordIn, wordAt}
+use Rattle.text.specs.Words.{wordIn, wordAt}
+use Rattle.text.specs.Fields.{mostDigits, etherValue, etherWord, readTarget, behind}
 use Rattle.text.specs.declared.Number.{Number}
 use Rattle.text.specs.declared.Number.the-variants as number
 use Rattle.text.specs.declared.Word.{Word}
 use Rattle.text.specs.declared.Word.the-variants as word
-use Rattle.row.specs.Kinds.{rowWords, kindWords, modeWords, etherWord, noField, aNumber, aKind, aMode, formOf}
+use Rattle.text.specs.declared.Got.{Got}
+use Rattle.text.specs.declared.Got.the-variants as got
+use Rattle.row.specs.Kinds.{rowWords, kindWords, modeWords, noField, aNumber, aKind, aMode, formOf}
 use Rattle.row.specs.declared.Row.{Row}
 use Rattle.row.specs.declared.Line.{Line}
 use Rattle.row.specs.declared.Line.the-variants.{Is, Bad}
-use Rattle.row.specs.declared.Got.{Got}
-use Rattle.row.specs.declared.Got.the-variants as got
-
--- "Numbers are decimal, one to ten digits"
-abbrev pub mostDigits : ℕ
-mostDigits = 10
-
--- `ether` in a field that may name a codel: "`ether` after every number"
-abbrev pub etherValue : ℕ
-etherValue = 10000000000
 
 -- which word it is, as a number
 abbrev pub placeIn : Word → Number
@@ -36,8 +28,7 @@ unfoldable pub readForm : ℕ → List ℕ → Number
 readForm form p =
     pick (eqb form aNumber) (readNumber mostDigits p)
     (pick (eqb form aKind) (placeIn (wordIn kindWords p))
-    (pick (eqb form aMode) (placeIn (wordIn modeWords p))
-    (pick (sameList p etherWord) (number.Is etherValue) (readNumber mostDigits p))))
+    (pick (eqb form aMode) (placeIn (wordIn modeWords p)) (readTarget p)))
 
 -- the next field by its form: a form without field takes none
 abbrev pub onNumber : Number → (ℕ → Line) → Line
@@ -73,15 +64,8 @@ unfoldable pub readRow : List ℕ → Line
 readRow s = rowIn (splitOn 9 s)
 
 -- the field behind the tab at a place, and where it ends
-abbrev pub gotAt : Number → ℕ → Got
-gotAt (number.Is v) e = got.Is v e
-gotAt number.Bad e = got.Bad
-
 unfoldable pub fieldBehind : ℕ → List ℕ → ℕ → Got
-fieldBehind form s at =
-    pick (eqb form noField) (got.Is 0 at)
-    (pick (leb (length s) at) got.Bad
-    (gotAt (readForm form (take (firstAt s (at + 1) 9 - (at + 1)) (drop (at + 1) s))) (firstAt s (at + 1) 9)))
+fieldBehind form s at = pick (eqb form noField) (got.Is 0 at) (behind (readForm form) s at)
 
 -- how a value of a form is written
 abbrev pub valueText : ℕ → ℕ → List ℕ
@@ -114,7 +98,7 @@ tabbed form v = pick (eqb form noField) [] (9 ∷ valueText form v)
 unfoldable pub formOk : ℕ → ℕ → Bool
 formOk form v =
     pick (eqb form noField) (eqb v 0)
-    (pick (eqb form aNumber) (ltb v 10000000000)
+    (pick (eqb form aNumber) (ltb v etherValue)
     (pick (eqb form aKind) (ltb v 3)
     (pick (eqb form aMode) (ltb v 2) (leb v etherValue))))
 

@@ -1,22 +1,17 @@
 // One row of a table's text: its word, its fields, read and written.
 ghost use mathlib.Core.Path.{_≡_};
-ghost use Prim.Native.Nat.{ℕ, _+_, _≤_};
+ghost use Prim.Native.Nat.{_+_, _≤_};
 ghost use lib.ListN.{length};
 ghost use lib.Seq.{sets};
 ghost use Rattle.text.specs.Put.{Put};
 ghost use Rattle.row.specs.Kinds.{mostOf, formOf};
 ghost use Rattle.row.specs.Row.{placeIn, readForm, readRow, fieldBehind, valueText, tabbed, rowLine, rowText};
+use text::Got;
 use text::Number;
 use text::Word;
 
 // The kind of an `end` row: where the page's row words end.
 pub const END: usize = 5;
-
-// `ether` in a field that may name a codel: above every number.
-pub const ETHER: u64 = 10000000000;
-
-// How many digits a number has at most.
-const MOST_DIGITS: usize = 10;
 
 // The row words; a row's kind is its word's place.
 const WORDS: [u8; 29] = *b"task\tact\tcodel\tedge\tmutex\tend";
@@ -33,7 +28,14 @@ pub const A_MODE: usize = 3;
 // For each row word, in their order: how many fields it has, how many rows there may be, and what its fields say, three places each.
 const FIELDS: [usize; 6] = [2, 1, 3, 3, 2, 1];
 
-const MOST: [usize; 6] = [16, 64, 256, 512, 512, 1];
+const MOST: [usize; 6] = [
+    model::MOST_TASKS,
+    model::MOST_ACTS,
+    model::MOST_CODELS,
+    model::MOST_EDGES,
+    model::MOST_MUTEXES,
+    1,
+];
 
 const FORMS: [usize; 18] = [1, 1, 0, 1, 0, 0, 1, 2, 1, 1, 4, 3, 1, 1, 0, 1, 0, 0];
 
@@ -48,12 +50,6 @@ pub struct Row {
 // What a line says: a row, or bad form.
 pub enum Line {
     Is(Row),
-    Bad,
-}
-
-// A field's value and where it ends, or bad form.
-enum Got {
-    Is(u64, usize),
     Bad,
 }
 
@@ -95,7 +91,7 @@ fn read_form(form: usize, p: &[u8]) -> Number
     ensures { λ r. ⌜ r ≡ readForm form (now (p .entry)) ⌝ }
 {
     if form == A_NUMBER {
-        return text::read_number(p, MOST_DIGITS);
+        return text::read_number(p, text::MOST_DIGITS);
     }
     if form == A_KIND {
         return place_in(text::word_in(b"start\tstop\tmain", p));
@@ -103,10 +99,7 @@ fn read_form(form: usize, p: &[u8]) -> Number
     if form == A_MODE {
         return place_in(text::word_in(b"run\tpause", p));
     }
-    if text::same(p, b"ether") {
-        return Number::Is(ETHER);
-    }
-    text::read_number(p, MOST_DIGITS)
+    text::read_target(p)
 }
 
 // The field behind the tab at a place.
@@ -164,7 +157,7 @@ fn value_width(form: usize, v: u64) -> usize
     if form == A_MODE {
         return text::word_width(b"run\tpause", v as usize);
     }
-    if v == ETHER {
+    if v == text::ETHER {
         return 5;
     }
     text::width(v)
@@ -204,7 +197,7 @@ fn put_value(buf: &mut [u8], at: usize, form: usize, v: u64) -> usize
     if form == A_MODE {
         return text::put_word(buf, at, b"run\tpause", v as usize);
     }
-    if v == ETHER {
+    if v == text::ETHER {
         return text::put_bytes(buf, at, b"ether");
     }
     text::put_number(buf, at, v)

@@ -1,14 +1,13 @@
 -- The marks of the codels that a pause leads to.
 use Prim.Native.Nat.{ℕ, zero, suc, _+_, _≤_, _<_}
-use mathlib.Core.Bool.{Bool, true, false}
+use mathlib.Core.Bool.{true}
 use mathlib.Core.List.{List}
 use mathlib.Core.Path.{_≡_, refl, sym, ap, _∙_}
 use native.Mathlib.Omega.{arith}
 use native.Mathlib.Numerals.{add-one}
 use lib.ListN.{length, getD, set, replicate, length-set, length-replicate, getD-replicate}
-use lib.Seq.{getD-set-same, getD-set-other}
 use lib.Dec.{T, eqb, ltb, ltb→lt}
-use borrow.Author.Tests.{eq-eqb, eqb-true, eqb-false}
+use borrow.Author.Tests.{eq-eqb}
 use Rattle.text.proofs.Picks.{cases, picked}
 use Rattle.model.specs.Limits.{mostCodels}
 use Rattle.model.specs.Tests.{_and_, _or_, some}
@@ -18,18 +17,10 @@ use Rattle.model.specs.declared.Place.{Place}
 use Rattle.model.specs.declared.Place.the-variants.{Ether, Codel}
 use Rattle.model.proofs.Tests.{and-l, some-mk}
 use Rattle.model.proofs.Formed.{Formed}
+use Rattle.table.proofs.Marks.{or-false, marks-set}
 use Rattle.prepared.specs.Prepared.{pauseOf}
 use Rattle.rules.proofs.Named.{known-codel}
 use Rattle.soundness.specs.Marks.{markAt, pauseMarks}
-
--- a test or one that fails; or one that holds
-or-no : (b : Bool) → b ≡ (b or false)
-or-no true = refl
-or-no false = refl
-
-or-yes : (b : Bool) → true ≡ (b or true)
-or-yes true = refl
-or-yes false = refl
 
 module _ (K : Table) where
   -- one edge more is marked
@@ -73,11 +64,8 @@ module _ (K : Table) where
   -- a codel is marked where a pause leads to it
   module _ (c : ℕ) (h : c < mostCodels) where
     mark-at : (p : Place) (l : List ℕ) → length l ≡ mostCodels → eqb (getD (markAt p l) c 0) 1 ≡ (eqb (getD l c 0) 1 or isCodel p c)
-    mark-at Ether l k = or-no (eqb (getD l c 0) 1)
-    mark-at (Codel d) l k =
-        cases (eqb d c)
-        (λ e. rw (e, eqb-true d c e, getD-set-same l c 1 0 (omega arith)) (or-yes (eqb (getD l c 0) 1)))
-        (λ e. rw (e, getD-set-other l d c 1 0 (λ q. eqb-false d c e (sym q))) (or-no (eqb (getD l c 0) 1)))
+    mark-at Ether l k = sym (or-false (eqb (getD l c 0) 1))
+    mark-at (Codel d) l k = marks-set l d c (λ e. omega arith)
 
     mark-row : (r : EdgeRow) (l : List ℕ) → length l ≡ mostCodels → eqb (getD (markAt (pauseOf r) l) c 0) 1 ≡ (eqb (getD l c 0) 1 or (r .pause and isCodel (r .target) c))
     mark-row r l k = cases (r .pause) (λ e. rw e (mark-at (r .target) l k)) (λ e. rw e (mark-at Ether l k))

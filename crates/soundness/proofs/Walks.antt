@@ -1,12 +1,11 @@
 -- A walk over rows that ends at the first that fails a test.
 use Prim.Native.Nat.{ℕ, _+_, _≤_, _<_}
 use mathlib.Core.Bool.{Bool, true, false}
-use mathlib.Core.Path.{_≡_, sym, _∙_}
+use mathlib.Core.Path.{_≡_, sym}
 use native.Mathlib.Omega.{arith}
 use borrow.Author.Count.{below-more}
 use Rattle.model.specs.Tests.{each}
-use Rattle.table.proofs.Tests.{each-at, each-all}
-use Rattle.text.proofs.Picks.{cases, false-true}
+use Rattle.table.proofs.Tests.{each-fails, each-all}
 
 -- each row below t passes the test
 pub record Fine (p : ℕ → Bool) (t : ℕ) : Type 0 where
@@ -24,6 +23,6 @@ module _ (p : ℕ → Bool) (n m t : ℕ) where
   fine-all h e F = sym (each-all m p (λ i l. F .below i (omega arith)))
 
   pub one-fails : t < n → n ≡ m → p t ≡ false → false ≡ each m p
-  one-fails h e f = cases (each m p) (λ q. absurd (false-true (sym f ∙ each-at m p q t (omega arith)))) sym
+  one-fails h e f = each-fails p m t (omega arith) f
 
 pub ruleset walk = (fine-none, fine-more, fine-all, one-fails)

@@ -15,24 +15,6 @@ use model::Place;
 use model::State;
 use model::Task;
 
-// "date at most 1,000,000,000,000"
-const CEILING: u64 = 1000000000000;
-
-// "longest is at most 1,000,000,000"
-const MOST_TICKS: u64 = 1000000000;
-
-// How many codels a table may have.
-const MOST_CODELS: usize = 256;
-
-fn both(a: bool, b: bool) -> bool
-    ensures { λ r. ⌜ r ≡ a and b ⌝ }
-{
-    if a {
-        return b;
-    }
-    false
-}
-
 fn implied(a: bool, b: bool) -> bool
     ensures { λ r. ⌜ r ≡ a implies b ⌝ }
 {
@@ -52,12 +34,12 @@ fn is_ether(p: Place) -> bool
 }
 
 // Marks the codels that a pause leads to.
-fn pause_marks(rows: &[u32], index: &[u32]) -> [u8; MOST_CODELS]
+fn pause_marks(rows: &[u32], index: &[u32]) -> [u8; model::MOST_CODELS]
     requires { ⌜ Prepared (now rows) (now index) ⌝ }
     ensures { λ r. ⌜ r ≡ pauseMarks (tableIn (now (rows .entry)) (now (index .entry))) (tableIn (now (rows .entry)) (now (index .entry)) .nedges) ⌝ }
 {
     let n = prepared::edge_count(rows, index);
-    let mut marks = [0u8; MOST_CODELS];
+    let mut marks = [0u8; model::MOST_CODELS];
     let mut e = 0;
     while e < n {
         let p = prepared::pause_of(rows, index, e);
@@ -154,7 +136,7 @@ fn fine_task(rows: &[u32], index: &[u32], date: u64, t: usize, x: Task) -> bool
     if !counts_ok(date, x) {
         return false;
     }
-    if MOST_TICKS < x.longest {
+    if model::MOST_TICKS < x.longest {
         return false;
     }
     x.opened <= date
@@ -192,7 +174,7 @@ fn rests_unless_running(rows: &[u32], index: &[u32], pauses: &[u8], holds: bool,
     requires { ⌜ Prepared (now rows) (now index) × T (known (tableIn (now rows) (now index)) (y .place)) × (now pauses ≡ pauseMarks (tableIn (now rows) (now index)) (tableIn (now rows) (now index) .nedges)) ⌝ }
     ensures { λ r. ⌜ r ≡ restsUnlessRunning (tableIn (now (rows .entry)) (now (index .entry))) holds (y .halt) (y .place) (y .executing) ⌝ }
 {
-    if both(holds, !y.halt) {
+    if rules::both(holds, !y.halt) {
         return true;
     }
     let p = y.place;
@@ -207,7 +189,7 @@ fn executes_when_safe(rows: &[u32], index: &[u32], holds: bool, y: Act) -> bool
     requires { ⌜ Prepared (now rows) (now index) × T (known (tableIn (now rows) (now index)) (y .place)) ⌝ }
     ensures { λ r. ⌜ r ≡ executesWhenSafe (tableIn (now (rows .entry)) (now (index .entry))) holds (y .halt) (y .place) (y .executing) ⌝ }
 {
-    if !both(holds, !y.halt) {
+    if !rules::both(holds, !y.halt) {
         return true;
     }
     let p = y.place;
@@ -244,7 +226,10 @@ fn listed_at_ether(holds: bool, y: Act) -> bool
     ensures { λ r. ⌜ r ≡ listedAtEther holds (y .run) (y .halt) (y .place) ⌝ }
 {
     let p = y.place;
-    implied(both(holds, is_ether(p)), rules::either(y.run, y.halt))
+    implied(
+        rules::both(holds, is_ether(p)),
+        rules::either(y.run, y.halt),
+    )
 }
 
 // "nothing executes at ether"
@@ -460,7 +445,7 @@ pub fn is_sound(rows: &[u32], index: &[u32], s: State) -> bool
     requires { ⌜ Prepared (now rows) (now index) ⌝ }
     ensures { λ r. ⌜ r ≡ sound (tableIn (now (rows .entry)) (now (index .entry))) s ⌝ }
 {
-    if CEILING < s.date {
+    if model::CEILING < s.date {
         return false;
     }
     if !tasks_fine(rows, index, s) {

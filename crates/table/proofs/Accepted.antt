@@ -6,15 +6,15 @@ use native.Mathlib.Omega.{arith}
 use lib.ListN.{length, getD}
 use lib.Dec.{ltb, leb, eqb}
 use borrow.Author.Tests.{lt-ltb, ltb-true, leb-true, eqb-true}
+use Rattle.text.specs.Fields.{etherValue}
 use Rattle.text.proofs.Picks.{cases}
 use Rattle.model.specs.Tests.{_implies_}
 use Rattle.model.specs.Limits.{mostTasks, mostActs, mostCodels, mostTicks, inRange}
-use Rattle.model.specs.Tables.{known}
+use Rattle.model.specs.Tables.{known, targetOf}
 use Rattle.model.specs.Tables as model
 use Rattle.row.specs.Kinds.{fieldsOf, mostOf, formOf}
-use Rattle.row.specs.Row.{etherValue}
 use Rattle.row.specs.declared.Row.{Row}
-use Rattle.table.specs.Tables.{slots, Counted, targetOf, tableOf}
+use Rattle.table.specs.Tables.{slots, Counted, tableOf}
 use Rattle.table.specs.Checks.{inPlace, kindFault, rowFault}
 use Rattle.table.specs.declared.Table.{Table}
 use Rattle.table.proofs.Tests.{both, needed, each-at}

@@ -7,17 +7,18 @@ use native.Mathlib.Omega.{arith}
 use lib.ListN.{getD}
 use lib.Dec.{ltb, leb, eqb}
 use borrow.Author.Tests.{lt-ltb, le-leb, eq-eqb, ne-eqb, ltb-true, leb-true, eqb-true, eqb-false}
+use Rattle.text.specs.Fields.{etherValue}
 use Rattle.text.proofs.Picks.{cases, order, picked, false-true}
 use Rattle.model.specs.Tests.{_and_, _or_, each}
 use Rattle.model.specs.Limits.{mostTasks, mostActs, mostCodels, mostTicks}
 use Rattle.row.specs.Kinds.{endKind, aNumber, aTarget, fieldsOf, mostOf, formOf}
-use Rattle.row.specs.Row.{etherValue, formOk, rowOk}
+use Rattle.row.specs.Row.{formOk, rowOk}
 use Rattle.row.specs.declared.Row.{Row}
 use Rattle.table.specs.Tables.{etherSlot, narrowed, widened, shown, slotOf, fieldOf, rowOf}
 use Rattle.table.proofs.Tests.{both, each-at}
 
 -- by the five kinds or forms
-five : (P : ℕ → Type 0) → P 0 → P 1 → P 2 → P 3 → P 4 → (k : ℕ) → k < 5 → P k
+pub five : (P : ℕ → Type 0) → P 0 → P 1 → P 2 → P 3 → P 4 → (k : ℕ) → k < 5 → P k
 five P a b c d e zero h = a
 five P a b c d e (suc zero) h = b
 five P a b c d e (suc (suc zero)) h = c
@@ -114,7 +115,7 @@ unfolding capOf formOk
 said-below v =
     five (λ form. v < capOf form → formOk form v ≡ true)
     (λ h. eq-eqb v 0 (omega arith))
-    (λ h. lt-ltb v 10000000000 (omega arith))
+    (λ h. lt-ltb v etherValue (omega arith))
     (λ h. lt-ltb v 3 h)
     (λ h. lt-ltb v 2 h)
     (λ h. le-leb v etherValue (omega arith))

@@ -46,15 +46,15 @@ or-true : (b : Bool) → b or true ≡ true
 or-true true = refl
 or-true false = refl
 
-or-false : (b : Bool) → b or false ≡ b
+pub or-false : (b : Bool) → b or false ≡ b
 or-false true = refl
 or-false false = refl
 
 -- a mark after one is set
-marks-set : (marks : List ℕ) (m i : ℕ) → m < length marks → marked (set marks m 1) i ≡ marked marks i or eqb m i
+pub marks-set : (marks : List ℕ) (m i : ℕ) → (m ≡ i → m < length marks) → marked (set marks m 1) i ≡ marked marks i or eqb m i
 marks-set marks m i h =
     cases (eqb m i)
-    (λ e. rw (← eqb-true m i e, getD-set-same marks m 1 0 h, eq-eqb m m refl) (sym (or-true (marked marks m))))
+    (λ e. let q = eqb-true m i e in rw (← q, getD-set-same marks m 1 0 (h q), eq-eqb m m refl) (sym (or-true (marked marks m))))
     (λ e. rw (getD-set-other marks m i 1 0 (λ q. eqb-false m i e (sym q)), e) (sym (or-false (marked marks i))))
 
 -- a row within its limits makes one of the marks
@@ -155,7 +155,7 @@ module _ {t : Table} {r : Row} (f : Follows t r) where
           → marked (set marks (markOf r) 1) i ≡ someRow (addRow t r) k q
       still i k q h now makes =
           let l = accepted f .limited in
-          marks-set marks (markOf r) i (rw (m .size) (mark-room r (f .worded .kind) l)) ∙ rw (now, makes l) (sym (some-added k h q))
+          marks-set marks (markOf r) i (λ e. rw (m .size) (mark-room r (f .worded .kind) l)) ∙ rw (now, makes l) (sym (some-added k h q))
 
 -- the empty table is being built
 pub building-empty : Building emptyTable (replicate marksLength 0)

@@ -35,7 +35,7 @@ sets-same (v ∷ vs) l i (suc j) h b =
     rw e (sets-same vs (set l i v) (suc i) j (omega arith) (omega (arith, length-set l i v)))
 
 -- each kind has its own stretch of the rows
-stretch : (k : ℕ) → k < 5 → baseOf k + mostOf k ≤ 1360
+pub stretch : (k : ℕ) → k < 5 → baseOf k + mostOf k ≤ 1360
 unfolding baseOf mostOf each
 stretch k h = leb-true _ _ (each-at 5 (λ i. leb (baseOf i + mostOf i) 1360) refl k h)
 

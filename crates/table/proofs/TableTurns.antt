@@ -12,11 +12,12 @@ use mir.Syntax.{w64}
 use borrow.Author.Tests.{lt-ltb, le-ltb, le-leb, lt-leb, eq-eqb, ne-eqb}
 use Rattle.text.specs.Parts.{pick, partsFrom, firstAt}
 use Rattle.text.specs.Put.{Put}
+use Rattle.text.specs.Fields.{etherValue}
 use Rattle.text.proofs.Parts.{parts-cut, parts-none, parts-all, cut-length}
 use Rattle.text.proofs.Puts.{put-fits, sets-append}
 use Rattle.text.proofs.Turns.{part-starts}
 use Rattle.row.specs.Kinds.{endKind, mostOf, fieldsOf, formOf}
-use Rattle.row.specs.Row.{etherValue, readRow, rowText}
+use Rattle.row.specs.Row.{readRow, rowText}
 use Rattle.row.specs.declared.Row.{Row}
 use Rattle.row.specs.declared.Line.{Line}
 use Rattle.row.specs.declared.Line.the-variants as line

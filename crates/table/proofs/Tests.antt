@@ -1,44 +1,37 @@
--- Laws of tests: what a conjunction, a passed refusal and a test of each or of some number show.
+-- The model's laws of tests, for tests that are told by `≡ true`; and when tests of each or of some number are alike.
 use Prim.Native.Nat.{ℕ, zero, suc, _<_}
-use mathlib.Core.Path.{_≡_, refl, sym}
+use mathlib.Core.Path.{_≡_, refl, sym, _∙_}
 use mathlib.Core.Bool.{Bool, true, false, not}
 use native.Mathlib.Omega.{arith}
-use Rattle.text.proofs.Picks.{false-true, order}
+use Rattle.text.proofs.Picks.{cases, false-true}
 use Rattle.model.specs.Tests.{_and_, _or_, each, some, need}
+use Rattle.model.proofs.Tests.{T-true, true-T, same-test, and-both, each-mk}
+use Rattle.model.proofs.Tests as tests
 
 -- both tests of a conjunction hold
 pub both : (a : Bool) {b : Bool} → a and b ≡ true → (a ≡ true) × (b ≡ true)
-both true h = (refl, h)
-both false h = absurd (false-true h)
+both a {b} h = let t = and-both a b (true-T (a and b) h) in (T-true a (t .0), T-true b (t .1))
 
 -- two tests of which each holds where the other does
 pub agree : (a b : Bool) → (a ≡ true → b ≡ true) → (b ≡ true → a ≡ true) → a ≡ b
-agree true b f g = sym (f refl)
-agree false true f g = g refl
-agree false false f g = refl
+agree a b f g = same-test a b (λ t. true-T b (f (T-true a t))) (λ t. true-T a (g (T-true b t)))
 
 -- where nothing is refused the test holds, and nothing is refused after it
 pub needed : (b : Bool) (n : ℕ) {r : ℕ} → need b (suc n) r ≡ 0 → (b ≡ true) × (r ≡ 0)
 needed true n h = (refl, h)
 needed false n h = absurd (omega arith)
 
--- the last number or one before it
-last : {P : Type 0} (i n : ℕ) → i < suc n → (i < n → P) → (i ≡ n → P) → P
-last i n h f g = order i n f (λ k. g (omega arith))
-
 -- a test of each number below n holds at every one of them
 pub each-at : (n : ℕ) (p : ℕ → Bool) → each n p ≡ true → (i : ℕ) → i < n → p i ≡ true
-unfolding each
-each-at zero p h i l = absurd (omega arith)
-each-at (suc n) p h i l =
-    let t = both (each n p) h in
-    last i n l (λ k. each-at n p (t .0) i k) (λ e. rw e (t .1))
+each-at n p h i l = T-true (p i) (tests.each-at p n (true-T (each n p) h) i l)
+
+-- does not hold where it fails at one of them
+pub each-fails : (p : ℕ → Bool) (n i : ℕ) → i < n → p i ≡ false → false ≡ each n p
+each-fails p n i l e = cases (each n p) (λ b. absurd (false-true (sym e ∙ each-at n p b i l))) sym
 
 -- and holds where it holds at every one of them
 pub each-all : (n : ℕ) (p : ℕ → Bool) → ((i : ℕ) → i < n → p i ≡ true) → each n p ≡ true
-unfolding each
-each-all zero p h = refl
-each-all (suc n) p h = rw (each-all n p (λ i l. h i (omega arith)), h n (omega arith))
+each-all n p h = T-true (each n p) (each-mk p n (λ i l. true-T (p i) (h i l)))
 
 module _ (p q : ℕ → Bool) where
   -- tests that agree below n hold alike at each number

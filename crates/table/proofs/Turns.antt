@@ -9,22 +9,23 @@ use lib.ListN.{getD, set}
 use lib.Dec.{ltb, leb, eqb}
 use mir.Val.{Fits}
 use mir.Syntax.{w32}
-use borrow.Author.Tests.{lt-ltb, le-ltb, le-leb, lt-leb, eq-eqb, ne-eqb, leb-true, eqb-true, eqb-false, not-true, not-false}
-use Rattle.text.proofs.Picks.{cases, order, false-true}
+use borrow.Author.Tests.{lt-ltb, le-ltb, le-leb, lt-leb, eq-eqb, ne-eqb, eqb-true, eqb-false, not-true, not-false}
+use Rattle.text.specs.Fields.{etherValue}
+use Rattle.text.proofs.Picks.{cases, order}
 use Rattle.row.specs.Kinds.{noField, aKind, aMode, mostOf, formOf}
-use Rattle.row.specs.Row.{etherValue}
 use Rattle.row.specs.declared.Row.{Row}
 use Rattle.model.specs.Tests.{_and_, _or_, _implies_, each, after, need}
 use Rattle.model.specs.Limits.{mostTasks, mostActs, mostCodels, mostEdges, mostMutexes, inRange}
-use Rattle.model.specs.Tables.{known}
+use Rattle.model.specs.Tables.{known, targetOf}
 use Rattle.model.specs.Tables as model
 use Rattle.model.specs.Rows.{taskFault, actFault, codelFault, edgeFault, mutexFault, placeBelow, edgeBelow, targetOk, lastFault}
-use Rattle.table.specs.Tables.{slots, made, baseOf, slotOf, etherSlot, narrowed, widened, shown, fieldOf, addRow, pairBelow, targetOf, tableOf}
+use Rattle.table.specs.Tables.{slots, made, slotOf, etherSlot, narrowed, widened, shown, fieldOf, addRow, pairBelow, tableOf}
 use Rattle.table.specs.Checks.{inPlace, kindFault, rowFault, verdictOf, refused, onFault, closed}
 use Rattle.table.specs.Marks.{kindMark, markOf, marked, Building}
 use Rattle.table.specs.declared.Verdict.the-variants.{Fine, Refused}
 use Rattle.table.specs.declared.Read.{Read}
-use Rattle.table.proofs.Tests.{each-at, each-same}
+use Rattle.table.proofs.Tests.{each-fails, each-same}
+use Rattle.table.proofs.Stored.{stretch}
 use Rattle.table.proofs.Built.{accepts}
 use Rattle.table.proofs.Marks.{last-by-marks, alone-by-marks}
 
@@ -77,8 +78,7 @@ module _ (rows : List ℕ) (k i j m : ℕ) (e : m ≡ mostOf k) where
 
 -- where its three numbers stand
 pub slot-room : (k i : ℕ) → k < 5 → i < mostOf k → slotOf k i + 3 ≤ slots
-unfolding baseOf mostOf each
-slot-room k i h l = omega (arith, leb-true (baseOf k + mostOf k) 1360 (each-at 5 (λ m. leb (baseOf m + mostOf m) 1360) refl k h))
+slot-room k i h l = omega (arith, stretch k h)
 
 -- and how large it is at most
 shown-most : (form x : ℕ) → Fits w32 x → shown form x ≤ etherValue
@@ -135,10 +135,6 @@ module _ (rows : List ℕ) (k n x : ℕ) (ne : n ≡ 0 → ⊥) (v : ℕ) (e : v
       pub rises-second : v ≤ x → (w : ℕ) → w ≡ fieldOf rows k (n - 1) 1 → ltb w y ≡ after n Below
       rises-second l w q = let d : v ≡ x = omega arith in rw (rising, le-ltb _ _ a, eq-eqb _ _ d, ← q)
 
--- a test that fails at one number does not hold at each
-fails : (p : ℕ → Bool) (i n : ℕ) → i < n → p i ≡ false → false ≡ each n p
-fails p i n l e = cases (each n p) (λ b. absurd (false-true (sym e ∙ each-at n p b i l))) (λ b. sym b)
-
 -- 2: no rows of a later kind, kind by kind
 module _ (counts : List ℕ) (k j : ℕ) where
   abbrev Early : ℕ → Bool
@@ -163,7 +159,7 @@ module _ (counts : List ℕ) (k j : ℕ) where
   -- a later kind with rows
   pub place-not : k < j → j < 5 → (getD counts j 0 ≡ 0 → ⊥) → false ≡ inPlace counts k
   unfolding inPlace
-  place-not h l e = fails Early j 5 l (rw (lt-ltb _ _ h, ne-eqb _ _ e))
+  place-not h l e = each-fails Early 5 j l (rw (lt-ltb _ _ h, ne-eqb _ _ e))
 
 -- a row of a kind that is full, or has room
 full : (n m k : ℕ) → m ≡ k → m ≤ n → ltb n k ≡ false
@@ -511,7 +507,7 @@ module _ (marks : List ℕ) (from i : ℕ) where
 
   -- one is not made
   pub all-not : (n : ℕ) → i < n → (getD marks (from + i) 0 ≡ 1 → ⊥) → false ≡ each n Made
-  all-not n l e = fails Made i n l (ne-eqb _ _ e)
+  all-not n l e = each-fails Made n i l (ne-eqb _ _ e)
 
 -- what is missing after the last row
 module _ (counts rows marks : List ℕ) (b : Building (made counts rows) marks) where

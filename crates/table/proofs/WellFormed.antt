@@ -11,13 +11,13 @@ use Rattle.text.specs.Parts.{pick}
 use Rattle.text.proofs.Picks.{cases, order}
 use Rattle.row.specs.declared.Row.{Row}
 use Rattle.model.specs.Tests.{_and_, each, after, accepted}
-use Rattle.model.specs.Tables.{EdgeRow, MutexRow, known, isKind}
+use Rattle.model.specs.Tables.{EdgeRow, MutexRow, known, isKind, targetOf}
 use Rattle.model.specs.Tables as model
 use Rattle.model.specs.Rows.{taskFault, actFault, codelFault, edgeFault, mutexFault, edgeBelow, mutexBelow, targetOk}
 use Rattle.model.specs.Rows.{hasAct, hasStart, leaves, lastFault, wellformed}
 use Rattle.model.specs.declared.Place.{Place}
 use Rattle.model.specs.declared.Place.the-variants.{Ether, Codel}
-use Rattle.table.specs.Tables.{emptyTable, fieldOf, rowOf, addRow, targetOf, tableOf}
+use Rattle.table.specs.Tables.{emptyTable, fieldOf, rowOf, addRow, tableOf}
 use Rattle.table.specs.Checks.{kindFault, rowFault, inPlace, rowsOf, checkTable}
 use Rattle.table.specs.declared.Table.{Table}
 use Rattle.table.specs.declared.Answer.the-variants.{Fine}

@@ -5,23 +5,24 @@ use mathlib.Core.List.{List, [], _∷_}
 use mathlib.Core.Bool.{true, false}
 use native.Mathlib.Omega.{arith}
 use lib.ListN.{length, getD, length-append}
-use lib.Dec.{leb, eqb}
-use borrow.Author.Tests.{leb-true, ne-eqb}
+use lib.Dec.{eqb}
+use borrow.Author.Tests.{ne-eqb}
 use Rattle.text.specs.Parts.{pick}
 use Rattle.text.specs.Number.{digits}
 use Rattle.text.specs.Words.{wordAt}
-use Rattle.text.proofs.Numbers.{width-bound, length-digits}
+use Rattle.text.specs.Fields.{etherValue, etherWord}
+use Rattle.text.proofs.Numbers.{digits-short}
 use Rattle.text.proofs.Picks.{order}
-use Rattle.row.specs.Kinds.{rowWords, kindWords, modeWords, etherWord, fieldsOf, mostOf, formOf, aTarget}
-use Rattle.row.specs.Row.{etherValue, rowLine, rowText}
+use Rattle.row.specs.Kinds.{rowWords, kindWords, modeWords, fieldsOf, mostOf, formOf, aTarget}
+use Rattle.row.specs.Row.{rowLine, rowText}
 use Rattle.row.specs.declared.Row.{Row}
-use Rattle.model.specs.Tests.{each, sum}
+use Rattle.row.proofs.Tables.{word-within}
+use Rattle.model.specs.Tests.{sum}
 use Rattle.table.specs.Tables.{totalOf, addRow}
 use Rattle.table.specs.Checks.{rowsOf, checkTable}
 use Rattle.table.specs.Texts.{longest, endRow, textOf, tableText}
 use Rattle.table.specs.declared.Table.{Table}
 use Rattle.table.specs.declared.Answer.the-variants.{Fine}
-use Rattle.table.proofs.Tests.{each-at}
 use Rattle.table.proofs.Fields.{by-kind, limitOf, within, by-limit, below-limit, Limited}
 use Rattle.table.proofs.Accepted.{Sized, Follows, accepted}
 use Rattle.table.proofs.Stored.{empty-sized, count-same, count-other}
@@ -32,15 +33,9 @@ use Rattle.table.proofs.Built.{Built, done, more, built-sized, built-al
 unfoldable wideOf : ℕ → ℕ
 wideOf k = getD (27 ∷ 7 ∷ 26 ∷ 21 ∷ 14 ∷ []) k 0
 
-digits-short : (v w : ℕ) → v < 10 ^ w → 1 ≤ w → length (digits v) ≤ w
-digits-short v w h l = rw (length-digits v) (width-bound v w h l)
-
--- a number within its limit, a word, a target
+-- a number within its limit, a target
 number-short : (k j v w : ℕ) → eqb (formOf k j) aTarget ≡ false → limitOf k j ≤ 10 ^ w → 1 ≤ w → within k j v ≡ true → length (digits v) ≤ w
 number-short k j v w n b l h = let m = below-limit k j v n h in digits-short v w (omega arith) l
-
-words-short : (words : List ℕ) (n : ℕ) → each n (λ z. leb (length (wordAt words z)) 5) ≡ true → (z : ℕ) → z < n → length (wordAt words z) ≤ 5
-words-short words n e z h = leb-true _ _ (each-at n (λ i. leb (length (wordAt words i)) 5) e z h)
 
 target-short : (b : ℕ) → within 3 1 b ≡ true → length (pick (eqb b etherValue) etherWord (digits b)) ≤ 5
 unfolding limitOf etherWord
@@ -51,7 +46,7 @@ target-short b h =
 
 -- a row within its limits is no longer
 row-short : (r : Row) → r .kind < 5 → Limited r → length (rowText r) ≤ wideOf (r .kind)
-unfolding rowLine rowWords kindWords modeWords wordAt formOf fieldsOf limitOf wideOf each
+unfolding rowLine rowWords kindWords modeWords wordAt formOf fieldsOf limitOf wideOf
 row-short =
     by-kind (λ r. Limited r → length (rowText r) ≤ wideOf (r .kind))
     (λ a b c l.
@@ -61,13 +56,13 @@ row-short =
     (λ a b c l. let p = number-short 1 0 a 2 refl (omega arith) (omega arith) (l 0 (omega arith)) in simp length-append (omega arith))
     (λ a b c l.
     let p = number-short 2 0 a 2 refl (omega arith) (omega arith) (l 0 (omega arith)) in
-    let q = words-short kindWords 3 refl b (below-limit 2 1 b refl (l 1 (omega arith))) in
+    let q = word-within 5 kindWords b refl in
     let r = number-short 2 2 c 10 refl (omega arith) (omega arith) (l 2 (omega arith)) in
     simp length-append (omega arith))
     (λ a b c l.
     let p = number-short 3 0 a 3 refl (omega arith) (omega arith) (l 0 (omega arith)) in
     let q = target-short b (l 1 (omega arith)) in
-    let r = words-short modeWords 2 refl c (below-limit 3 2 c refl (l 2 (omega arith))) in
+    let r = word-within 5 modeWords c refl in
     simp length-append (omega arith))
     (λ a b c l.
     let p = number-short 4 0 a 3 refl (omega arith) (omega arith) (l 0 (omega arith)) in

@@ -6,10 +6,11 @@ use lib.ListN.{getD}
 use lib.Dec.{ltb, eqb}
 use Rattle.text.specs.Parts.{pick}
 use Rattle.row.specs.declared.Row.{Row}
+use Rattle.model.specs.Tables.{targetOf}
 use Rattle.model.specs.Tests.{_implies_, each, need}
 use Rattle.model.specs.Rows.{taskFault, actFault, codelFault, edgeFault, mutexFault, lastFault}
 use Rattle.model.specs.Tables as model
-use Rattle.table.specs.Tables.{emptyTable, rowOf, addRow, targetOf, tableOf}
+use Rattle.table.specs.Tables.{emptyTable, rowOf, addRow, tableOf}
 use Rattle.table.specs.declared.Table.{Table}
 use Rattle.table.specs.declared.Answer.the-variants.{Fine, Refused}
 use Rattle.table.specs.declared.Read.{Read}

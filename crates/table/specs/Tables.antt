@@ -7,13 +7,12 @@ use lib.ListN.{length, getD, set, replicate}
 use lib.Seq.{sets}
 use lib.Dec.{ltb, eqb}
 use Rattle.text.specs.Parts.{pick}
+use Rattle.text.specs.Fields.{etherValue}
 use Rattle.row.specs.Kinds.{mostOf, formOf, noField, aKind, aMode}
-use Rattle.row.specs.Row.{etherValue}
 use Rattle.row.specs.declared.Row.{Row}
+use Rattle.model.specs.Tables.{targetOf}
 use Rattle.model.specs.Tests.{_and_, _or_}
 use Rattle.model.specs.Tables as model
-use Rattle.model.specs.declared.Place.{Place}
-use Rattle.model.specs.declared.Place.the-variants.{Ether, Codel}
 use Rattle.table.specs.declared.Table.{Table}
 
 -- how many rows of the five kinds there may be in all, three numbers each
@@ -77,10 +76,6 @@ addRow t r = record {
 -- the pair (a, b) stands below the pair (c, d)
 abbrev pub pairBelow : ℕ → ℕ → ℕ → ℕ → Bool
 pairBelow a b c d = ltb a c or (eqb a c and ltb b d)
-
--- a field that may name a codel
-abbrev pub targetOf : ℕ → Place
-targetOf v = pick (eqb v etherValue) Ether (Codel v)
 
 -- what the rules see
 unfoldable pub tableOf : Table → model.Table

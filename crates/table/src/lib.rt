@@ -5,23 +5,21 @@ ghost use lib.ListN.{length, getD, set};
 ghost use lib.Seq.{sets};
 ghost use lib.Dec.{eqb, leb, ltb};
 ghost use Rattle.text.specs.Parts.{partsFrom};
+ghost use Rattle.text.specs.Fields.{etherValue};
 ghost use Rattle.row.specs.Kinds.{mostOf};
-ghost use Rattle.row.specs.Row.{etherValue};
+ghost use Rattle.model.specs.Tables.{targetOf};
 ghost use Rattle.model.specs.Tests.{_and_, _or_, each, after};
 ghost use Rattle.model.specs.Limits.{inRange, mostTasks, mostActs, mostCodels};
 ghost use Rattle.model.specs.Rows.{taskFault, actFault, codelFault, edgeFault, mutexFault, lastFault, targetOk};
-ghost use Rattle.table.specs.Tables.{slots, made, emptyTable, narrowed, shown, fieldOf, rowOf, pairBelow, addRow, targetOf, tableOf, totalOf};
+ghost use Rattle.table.specs.Tables.{slots, made, emptyTable, narrowed, shown, fieldOf, rowOf, pairBelow, addRow, tableOf, totalOf};
 ghost use Rattle.table.specs.Checks.{inPlace, rowFault, kindFault, verdictOf, numberOf, refused, closed, checkTable};
 ghost use Rattle.table.specs.Marks.{marksLength, kindMark, markOf, marked, Building};
 ghost use Rattle.table.specs.Texts.{readTable, faultBehind, endRow, tableText, written, writeTable, writtenOver};
 use row::Line;
 use row::Row;
 
-// The longest text that is read.
-const LONGEST: usize = 32768;
-
-// "Period, keep and limit are 1 to 1,000,000,000."
-const MOST_TICKS: u64 = 1000000000;
+// "Length over 32,768 bytes comes first": the longest text that is read.
+pub const LONGEST: usize = 32768;
 
 // How many numbers the rows of a table take, three a row.
 const SLOTS: usize = 4080;
@@ -30,7 +28,7 @@ const SLOTS: usize = 4080;
 const BASES: [usize; 5] = [0, 16, 80, 336, 848];
 
 // `ether` among the stored numbers.
-const ETHER_SLOT: u32 = 4294967295;
+pub const ETHER_SLOT: u32 = 4294967295;
 
 // A table by value: how many rows of each kind (tasks, activities, codels, edges, mutexes), and the rows, three numbers each; unused ones
 // are 0.
@@ -79,14 +77,14 @@ fn in_range(n: u64) -> bool
     if n < 1 {
         return false;
     }
-    n <= MOST_TICKS
+    n <= model::MOST_TICKS
 }
 
 // A value as it is stored.
 fn narrow(v: u64) -> u32
     ensures { λ r. ⌜ r ≡ narrowed v ⌝ }
 {
-    if v < 4294967295 {
+    if v < (ETHER_SLOT as u64) {
         return v as u32;
     }
     ETHER_SLOT
@@ -116,7 +114,7 @@ fn show(form: usize, x: u32) -> u64
         return least(x, 1);
     }
     if x == ETHER_SLOT {
-        return row::ETHER;
+        return text::ETHER;
     }
     x as u64
 }
@@ -265,7 +263,7 @@ fn may_lead(rows: &[u32], counts: [usize; 5], r: Row) -> bool
     requires { ⌜ length (now rows) ≡ slots ⌝ }
     ensures { λ b. ⌜ b ≡ targetOk (tableOf (made counts (now (rows .entry)))) (r .a) (targetOf (r .b)) (eqb (r .c) 1) ⌝ }
 {
-    if r.b == row::ETHER {
+    if r.b == text::ETHER {
         return r.c != 1;
     }
     let c = r.a as usize;
@@ -280,7 +278,7 @@ fn may_lead(rows: &[u32], counts: [usize; 5], r: Row) -> bool
 fn is_known(codels: u64, v: u64) -> bool
     ensures { λ b. ⌜ b ≡ (eqb v etherValue or ltb v codels) ⌝ }
 {
-    if v == row::ETHER {
+    if v == text::ETHER {
         return true;
     }
     v < codels

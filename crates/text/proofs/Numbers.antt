@@ -55,17 +55,14 @@ width-narrow : (n : ℕ) → widthOf n ≤ widest → n < 10 ^ widthOf n
 unfolding widthOf
 width-narrow n h = holds widest 1 n (omega arith)
 
--- its digits hold a number of 64 bits
-pub width-holds : (n : ℕ) → n < 18446744073709551616 → n < 10 ^ widthOf n
-width-holds n h =
-    order 19 (widthOf n)
-    (λ k. let p : 10 ^ 20 ≤ 10 ^ widthOf n = ten-le k in omega arith)
-    (λ k. width-narrow n k)
-
 -- the text of a number is as long as the number is wide
 pub length-digits : (n : ℕ) → length (digits n) ≡ widthOf n
 unfolding digits
 length-digits n = length-pad 10 (widthOf n) n
+
+-- which is no longer than that where the number is below a power of ten
+pub digits-short : (n w : ℕ) → n < 10 ^ w → 1 ≤ w → length (digits n) ≤ w
+digits-short n w h l = rw (length-digits n) (width-bound n w h l)
 
 -- no byte below the digits' stands in it: no tab and no newline
 pub digits-free : (c n : ℕ) → c < 48 → free c (digits n) ≡ true

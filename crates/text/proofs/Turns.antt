@@ -1,6 +1,6 @@
 -- One law for each turn and each exit of the code: `now` is what the definition says of what is left, `r` what it says of the whole.
 use Prim.Native.Nat.{ℕ, zero, suc, _+_, _-_, _*_, _/_, _%_, _^_, _≤_, _<_}
-use mathlib.Core.Path.{_≡_, sym, ap, _∙_}
+use mathlib.Core.Path.{_≡_, refl, sym, ap, _∙_}
 use mathlib.Core.List.{List, [], _∷_, _++_}
 use mathlib.Core.Bool.{Bool, true, false, not}
 use native.Mathlib.Omega.{arith}
@@ -16,6 +16,7 @@ use Rattle.text.specs.Digits.{glyphOf, valueOf, scan, pad}
 use Rattle.text.specs.Number.{widthFrom, widest, readNumber, widthOf, digits}
 use Rattle.text.specs.Set.{readSet}
 use Rattle.text.specs.Words.{sameList, indexFrom, wordIn, wordAt}
+use Rattle.text.specs.Fields.{gotAt, behind}
 use Rattle.text.specs.Put.{Put}
 use Rattle.text.specs.declared.Number.{Number}
 use Rattle.text.specs.declared.Number.the-variants.{Is, Bad}
@@ -23,6 +24,8 @@ use Rattle.text.specs.declared.Word.{Word}
 use Rattle.text.specs.declared.Word.the-variants as word
 use Rattle.text.specs.declared.Field.{Field}
 use Rattle.text.specs.declared.Field.the-variants.{At, Absent}
+use Rattle.text.specs.declared.Got.{Got}
+use Rattle.text.specs.declared.Got.the-variants as got
 use Rattle.text.proofs.Parts.{Stands, firstAt-le, parts-cut, parts-none, parts-all, cut-length}
 use Rattle.text.proofs.Picks.{cases, order}
 use Rattle.text.proofs.Digits.{length-pad}
@@ -313,6 +316,48 @@ module _ (s : List ℕ) (at e c : ℕ) (h : at ≤ length s) (f : e ≡ firstAt 
   -- it stands inside the text, or is the end
   pub part-ends : e ≤ length s
   part-ends = rw f (firstAt-le c s at h .1)
+
+-- so does the first c of the whole text
+pub first-ends : (s : List ℕ) (e c : ℕ) → e ≡ firstAt s 0 c → e ≤ length s
+first-ends s e c f = part-ends s 0 e c (omega arith) f
+
+-- the field behind the tab at a place, read by a form
+module _ (form : List ℕ → Number) (s : List ℕ) (at : ℕ) where
+  pub behind-gone : length s ≤ at → got.Bad ≡ behind form s at
+  unfolding behind
+  behind-gone h = rw (le-leb _ _ h)
+
+  module _ (h : at < length s) (e : ℕ) (f : e ≡ firstAt s (at + 1) 9) (n : Number) (q : n ≡ form (take (e - (at + 1)) (drop (at + 1) s))) where
+    found : gotAt n e ≡ behind form s at
+    unfolding behind
+    found = rw (lt-leb _ _ h, ← f, ← q)
+
+    pub behind-bad : n ≡ Bad → got.Bad ≡ behind form s at
+    behind-bad u = rw (← found, u)
+
+    pub behind-is : (v : ℕ) → n ≡ Is v → got.Is v e ≡ behind form s at
+    behind-is v u = rw (← found, u)
+
+  -- it is the first of the parts behind the tab, where there are any
+  pub behind-parts : {P : Type 0} → (partsFrom 9 s (at + 1) ≡ [] → behind form s at ≡ got.Bad → P)
+      → ((p : List ℕ) (e : ℕ) → e ≤ length s → partsFrom 9 s (at + 1) ≡ p ∷ partsFrom 9 s (e + 1) → behind form s at ≡ gotAt (form p) e → P) → P
+  behind-parts f g =
+      order at (length s)
+      (λ k.
+      let l : at + 1 ≤ length s = omega arith in
+      g _ _ (firstAt-le 9 s (at + 1) l .1) (parts-cut 9 s (at + 1) l) (sym (found k _ refl _ refl)))
+      (λ k. let l : length s < at + 1 = omega arith in f (parts-none 9 s (at + 1) l) (sym (behind-gone k)))
+
+  -- where it is found it ends within the line
+  pub behind-ends : (g : Got) → g ≡ behind form s at → (v e : ℕ) → g ≡ got.Is v e → e ≤ length s
+  behind-ends g q v e u =
+      behind-parts
+      (λ p b. let t : got.Bad ≡ got.Is v e = sym (q ∙ b) ∙ u in let z : _≡_ {A = ℕ} 0 1 = cc in absurd (omega arith))
+      (λ p x l c b. inside (form p) x l (sym (q ∙ b) ∙ u))
+    where
+      inside : (n : Number) (x : ℕ) → x ≤ length s → gotAt n x ≡ got.Is v e → e ≤ length s
+      inside (Is w) x l t = let z : x ≡ e = cc in omega arith
+      inside Bad x l t = let z : _≡_ {A = ℕ} 0 1 = cc in absurd (omega arith)
 
 -- the next part of a line, from a place to the tab that ends it
 module _ (s : List ℕ) (at e : ℕ) (h : at ≤ length s) (f : e ≡ firstAt s at 9) where

@@ -3,4 +3,5 @@ pub mod Digits
 pub mod Number
 pub mod Set
 pub mod Words
+pub mod Fields
 pub mod Put

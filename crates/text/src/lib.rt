@@ -9,6 +9,7 @@ ghost use Rattle.text.specs.Digits.{glyphOf, valueOf, scan, pad};
 ghost use Rattle.text.specs.Number.{readNumber, widthOf, digits};
 ghost use Rattle.text.specs.Set.{readSet, setDigits, setText};
 ghost use Rattle.text.specs.Words.{sameList, wordIn, wordAt};
+ghost use Rattle.text.specs.Fields.{readTarget};
 ghost use Rattle.text.specs.Put.{Put};
 
 // The byte that parts the fields of a line.
@@ -19,6 +20,12 @@ pub const NEWLINE: u8 = 10;
 
 // How many digits a set has.
 pub const SET_DIGITS: usize = 16;
+
+// "Numbers are decimal, one to ten digits": the most that a number of a table or a log has.
+pub const MOST_DIGITS: usize = 10;
+
+// `ether` where a codel may stand: "`ether` after every number".
+pub const ETHER: u64 = 10000000000;
 
 // No number of more digits is read, so that each fits.
 const WIDEST: usize = 19;
@@ -39,6 +46,12 @@ pub enum Word {
 pub enum Field {
     At(usize, usize),
     Absent,
+}
+
+// A field's value and where it ends, or bad form.
+pub enum Got {
+    Is(u64, usize),
+    Bad,
 }
 
 // The powers of ten that 64 bits hold.
@@ -244,6 +257,16 @@ pub fn same(a: &[u8], b: &[u8]) -> bool
         i += 1;
     }
     true
+}
+
+// What a field says as a codel's number or `ether`.
+pub fn read_target(s: &[u8]) -> Number
+    ensures { λ r. ⌜ r ≡ readTarget (now (s .entry)) ⌝ }
+{
+    if same(s, b"ether") {
+        return Number::Is(ETHER);
+    }
+    read_number(s, MOST_DIGITS)
 }
 
 // How many of so many places have three more behind them.

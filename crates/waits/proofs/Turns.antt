@@ -19,8 +19,7 @@ use Rattle.model.specs.declared.Place.{Place}
 use Rattle.model.specs.declared.Place.the-variants.{Ether, Codel}
 use Rattle.model.specs.declared.Step.{Step}
 use Rattle.model.specs.declared.Step.the-variants.{Fm}
-use Rattle.model.proofs.Tests.{T-false, each-at}
-use Rattle.table.proofs.Tests.{each-same, each-not}
+use Rattle.table.proofs.Tests.{each-fails, each-same, each-not}
 use Rattle.prepared.specs.Prepared.{tableIn, beginOf, endOf, actsAt, Prepared, conflict}
 use Rattle.prepared.proofs.Stored.{most-acts}
 use Rattle.prepared.proofs.Walks.{Passed, found, absent}
@@ -33,9 +32,6 @@ use Rattle.waits.proofs.Bits.{within-low, within-range}
 pub each-more : (p : ℕ → Bool) (i : ℕ) → each i p ≡ true → p i ≡ true → each (i + 1) p ≡ true
 unfolding each
 each-more p i e f = rw (add-one, e) f
-
-each-fails : (p : ℕ → Bool) (n i : ℕ) → i < n → p i ≡ false → false ≡ each n p
-each-fails p n i h e = sym (T-false _ (λ t. absurd (subst T e (each-at p n t i h))))
 
 -- what an activity executes
 module _ (y : Act) where

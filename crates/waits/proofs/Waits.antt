@@ -3,7 +3,7 @@ use mathlib.Core.Bool.{Bool, true, false, not}
 use mathlib.Core.Path.{_≡_, refl, subst, subst⁻¹, _∙_}
 use Prim.Native.Nat.{ℕ, _+_, _<_}
 use lib.Dec.{T, leb, eqb→eq, eqb-refl}
-use Rattle.model.specs.Tests.{_or_, _implies_, each, some, need}
+use Rattle.model.specs.Tests.{_implies_, each, some, need}
 use Rattle.model.specs.Limits.{inRange, ceiling}
 use Rattle.model.specs.Tables.{Table, isCodel}
 use Rattle.model.specs.States.{taskAt, actAt, runs, executes}
@@ -18,6 +18,7 @@ use Rattle.model.proofs.Formed.{Formed}
 use Rattle.model.proofs.Soundness.{Sound, held-is, holder-in, executing-at, task-at}
 use Rattle.model.proofs.Urgent.{urgent-hindered}
 use Rattle.table.proofs.Tests.{some-same}
+use Rattle.table.proofs.Marks.{or-false}
 use Rattle.waits.specs.Beside.{busyIn}
 use Rattle.waits.specs.Waits.{heldIn, hindersBy, limitAt, heldRoom, roomBy}
 use Rattle.waits.proofs.Beside.{clear-by-at}
@@ -28,10 +29,6 @@ hindersAt K s t = hindersBy K (busyIn s) (taskAt s t) (taskAt s t .holder) (actA
 
 abbrev pub roomAt : Table → State → ℕ → ℕ → Bool
 roomAt K s d t = roomBy K d t (taskAt s t) (actAt s (heldIn (taskAt s t .holder)))
-
-or-false : (b : Bool) → (b or false) ≡ b
-or-false true = refl
-or-false false = refl
 
 module _ (K : Table) (F : Formed K) (s : State) (S : Sound K s) where
   -- 16: a task that an activity holds is managing

@@ -17,13 +17,7 @@ use model::Place;
 use model::Step;
 
 // The number of an activity's codel where it executes none.
-const NO_CODEL: usize = 256;
-
-// "d from 1 to 1,000,000,000"
-const MOST_TICKS: u64 = 1000000000;
-
-// "the date 1,000,000,000,000"
-const CEILING: u64 = 1000000000000;
+const NO_CODEL: usize = model::MOST_CODELS;
 
 // The codel that an activity executes.
 pub fn busy_of(y: Act) -> usize
@@ -165,7 +159,7 @@ pub fn in_range(d: u64) -> bool
     if d < 1 {
         return false;
     }
-    d <= MOST_TICKS
+    d <= model::MOST_TICKS
 }
 
 // 16 of a task whose holder is an activity: is it in R, at ether, or standing with no conflicting codel executing?
@@ -222,7 +216,7 @@ pub fn wait_number(room: bool, date: u64, d: u64) -> u64
     if !room {
         return 17;
     }
-    if CEILING < date + d {
+    if model::CEILING < date + d {
         return 18;
     }
     0

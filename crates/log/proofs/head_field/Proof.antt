@@ -1,11 +1,12 @@
 -- `head_field` meets its contract.
+use native.Mathlib.Omega.{arith}
 use borrow.Author.Needs.{needs}
-use Rattle.log.proofs.Turns.{head-gone, head-ends, head-bad, head-is}
+use Rattle.text.proofs.Turns.{part-ends, behind-gone, behind-bad, behind-is}
 use Rattle.log.proofs.head_field.Statement.{statement}
 use Rattle.log.proofs.head_field.Tie as tie
 
 returns : tie.Need-returns
-returns c = search (head-gone)
+returns c = search (behind-gone)
 
 add-a : tie.Need-add-a
 add-a c = search needs
@@ -20,7 +21,7 @@ part-read-form-start : tie.Need-part-read-form-start
 part-read-form-start c = search needs
 
 part-read-form-end : tie.Need-part-read-form-end
-part-read-form-end c = search (needs, head-ends)
+part-read-form-end c = part-ends _ _ _ 9 (omega arith) (c .next-byte .ensures)
 
 read-form-requires : tie.Need-read-form-requires
 read-form-requires c κs = search needs
@@ -32,10 +33,10 @@ enum-told : tie.Need-enum-told
 enum-told c = search needs
 
 returns-2 : tie.Need-returns-2
-returns-2 c = search (head-bad)
+returns-2 c = search (behind-bad)
 
 returns-3 : tie.Need-returns-3
-returns-3 c = search (head-is)
+returns-3 c = search (behind-is)
 
 pub head-field-spec : {M : Type 1} → statement M
 head-field-spec =

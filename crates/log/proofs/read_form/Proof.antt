@@ -1,7 +1,6 @@
 -- `read_form` meets its contract.
 use borrow.Author.Needs.{needs}
-use Rattle.log.specs.Lines.{etherWord}
-use Rattle.log.proofs.Turns.{form-number, form-set, form-ether, form-codel}
+use Rattle.log.proofs.Turns.{form-number, form-set, form-place}
 use Rattle.log.proofs.read_form.Statement.{statement}
 use Rattle.log.proofs.read_form.Tie as tie
 
@@ -17,22 +16,11 @@ read-set-requires c κs = search needs
 returns-2 : tie.Need-returns-2
 returns-2 c = search (form-set)
 
-slice-aggregate-same : tie.Need-slice-aggregate-same
-slice-aggregate-same c = search needs
-
-same-requires : tie.Need-same-requires
-same-requires c κs = search needs
+read-target-requires : tie.Need-read-target-requires
+read-target-requires c κs = search needs
 
 returns-3 : tie.Need-returns-3
-unfolding etherWord
-returns-3 c = search (form-ether)
-
-read-number-requires-2 : tie.Need-read-number-requires-2
-read-number-requires-2 c κs = search needs
-
-returns-4 : tie.Need-returns-4
-unfolding etherWord
-returns-4 c = search (form-codel)
+returns-3 c = search (form-place)
 
 pub read-form-spec : {M : Type 1} → statement M
 read-form-spec =
@@ -42,8 +30,5 @@ read-form-spec =
     returns
     read-set-requires
     returns-2
-    slice-aggregate-same
-    same-requires
-    returns-3
-    read-number-requires-2
-    returns-4)
+    read-target-requires
+    returns-3)

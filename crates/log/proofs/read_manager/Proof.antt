@@ -1,6 +1,7 @@
 -- `read_manager` meets its contract.
 use borrow.Author.Needs.{needs}
-use Rattle.log.proofs.Turns.{headed-bad, headed-is, got-ends, given-bad, given-is}
+use Rattle.text.proofs.Turns.{behind-ends}
+use Rattle.log.proofs.Turns.{headed-bad, headed-is, given-bad, given-is}
 use Rattle.log.proofs.read_manager.Statement.{statement}
 use Rattle.log.proofs.read_manager.Tie as tie
 
@@ -17,7 +18,7 @@ returns : tie.Need-returns
 returns c = search (headed-bad)
 
 head-field-requires-2 : tie.Need-head-field-requires-2
-head-field-requires-2 c κs = search (got-ends)
+head-field-requires-2 c κs = search (behind-ends)
 
 enum-known-n : tie.Need-enum-known-n
 enum-known-n c = search needs
@@ -29,7 +30,7 @@ returns-2 : tie.Need-returns-2
 returns-2 c = search (headed-bad, headed-is)
 
 only-field-requires : tie.Need-only-field-requires
-only-field-requires c κs = search (got-ends)
+only-field-requires c κs = search (behind-ends)
 
 enum-known-r : tie.Need-enum-known-r
 enum-known-r c = search needs

@@ -1,6 +1,7 @@
 -- `read_two` meets its contract.
 use borrow.Author.Needs.{needs}
-use Rattle.log.proofs.Turns.{headed-bad, headed-is, got-ends, given-bad, given-is, two-lm, two-ea}
+use Rattle.text.proofs.Turns.{behind-ends}
+use Rattle.log.proofs.Turns.{headed-bad, headed-is, given-bad, given-is, two-lm, two-ea}
 use Rattle.log.proofs.read_two.Statement.{statement}
 use Rattle.log.proofs.read_two.Tie as tie
 
@@ -17,7 +18,7 @@ returns : tie.Need-returns
 returns c = search (headed-bad)
 
 only-field-requires : tie.Need-only-field-requires
-only-field-requires c κs = search (got-ends)
+only-field-requires c κs = search (behind-ends)
 
 enum-known-b : tie.Need-enum-known-b
 enum-known-b c = search needs

@@ -31,8 +31,8 @@ shared-slice-read-size c = omega (arith, most-codels)
 size-requires : tie.Need-size-requires Inv-loop μ-loop
 size-requires c κs = search needs
 
-edges-begin-requires : tie.Need-edges-begin-requires Inv-loop μ-loop
-edges-begin-requires c κs = omega (arith, most-codels)
+rows-begin-requires : tie.Need-rows-begin-requires Inv-loop μ-loop
+rows-begin-requires c κs = omega (arith, most-codels)
 
 loop-holds : tie.Need-loop-holds Inv-loop μ-loop
 loop-holds c = search (needs, edges-end, passed-none)
@@ -96,7 +96,7 @@ has-edge-spec =
     mul-size
     shared-slice-read-size
     size-requires
-    edges-begin-requires
+    rows-begin-requires
     loop-holds
     mul-if1
     add-if1

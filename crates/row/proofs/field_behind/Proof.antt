@@ -1,8 +1,8 @@
 -- `field_behind` meets its contract.
 use native.Mathlib.Omega.{arith}
 use borrow.Author.Needs.{needs}
-use Rattle.text.proofs.Turns.{part-ends}
-use Rattle.row.proofs.Turns.{behind-none, behind-end, behind-bad, behind-is}
+use Rattle.text.proofs.Turns.{part-ends, behind-gone, behind-bad, behind-is}
+use Rattle.row.proofs.Turns.{behind-none, behind-some}
 use Rattle.row.proofs.field_behind.Statement.{statement}
 use Rattle.row.proofs.field_behind.Tie as tie
 
@@ -10,7 +10,7 @@ returns : tie.Need-returns
 returns c = search (behind-none)
 
 returns-2 : tie.Need-returns-2
-returns-2 c = search (behind-end)
+returns-2 c = search (behind-some, behind-gone)
 
 add-a : tie.Need-add-a
 add-a c = search needs
@@ -37,10 +37,10 @@ enum-told : tie.Need-enum-told
 enum-told c = search needs
 
 returns-3 : tie.Need-returns-3
-returns-3 c = search (behind-bad)
+returns-3 c = search (behind-some, behind-bad)
 
 returns-4 : tie.Need-returns-4
-returns-4 c = search (behind-is)
+returns-4 c = search (behind-some, behind-is)
 
 pub field-behind-spec : {M : Type 1} → statement M
 field-behind-spec =

@@ -1,7 +1,7 @@
 -- `read_form` meets its contract.
 use borrow.Author.Needs.{needs}
-use Rattle.row.specs.Kinds.{kindWords, modeWords, etherWord}
-use Rattle.row.proofs.Turns.{read-number, read-kind, read-mode, read-ether, read-codel}
+use Rattle.row.specs.Kinds.{kindWords, modeWords}
+use Rattle.row.proofs.Turns.{read-number, read-kind, read-mode, read-target}
 use Rattle.row.proofs.read_form.Statement.{statement}
 use Rattle.row.proofs.read_form.Tie as tie
 
@@ -37,22 +37,11 @@ returns-3 : tie.Need-returns-3
 unfolding modeWords
 returns-3 c = search (read-mode)
 
-slice-aggregate-same : tie.Need-slice-aggregate-same
-slice-aggregate-same c = search needs
-
-same-requires : tie.Need-same-requires
-same-requires c κs = search needs
+read-target-requires : tie.Need-read-target-requires
+read-target-requires c κs = search needs
 
 returns-4 : tie.Need-returns-4
-unfolding etherWord
-returns-4 c = search (read-ether)
-
-read-number-requires-2 : tie.Need-read-number-requires-2
-read-number-requires-2 c κs = search needs
-
-returns-5 : tie.Need-returns-5
-unfolding etherWord
-returns-5 c = search (read-codel)
+returns-4 c = search (read-target)
 
 pub read-form-spec : {M : Type 1} → statement M
 read-form-spec =
@@ -68,8 +57,5 @@ read-form-spec =
     word-in-requires-2
     place-in-requires-2
     returns-3
-    slice-aggregate-same
-    same-requires
-    returns-4
-    read-number-requires-2
-    returns-5)
+    read-target-requires
+    returns-4)

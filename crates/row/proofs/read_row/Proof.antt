@@ -1,7 +1,8 @@
 -- `read_row` meets its contract. Each field ends within the line, so that the next may start there.
 use borrow.Author.Needs.{needs}
+use Rattle.text.proofs.Turns.{first-ends}
 use Rattle.row.specs.Kinds.{rowWords}
-use Rattle.row.proofs.Turns.{row-unknown, row-first, row-second, row-third, row-long, row-whole, behind-ends, word-ends}
+use Rattle.row.proofs.Turns.{row-unknown, row-first, row-second, row-third, row-long, row-whole, field-ends}
 use Rattle.row.proofs.read_row.Statement.{statement}
 use Rattle.row.proofs.read_row.Tie as tie
 
@@ -18,7 +19,7 @@ part-word-in-start : tie.Need-part-word-in-start
 part-word-in-start c = search needs
 
 part-word-in-end : tie.Need-part-word-in-end
-part-word-in-end c = search (word-ends)
+part-word-in-end c = search (first-ends)
 
 word-in-requires : tie.Need-word-in-requires
 word-in-requires c κs = search needs
@@ -37,7 +38,7 @@ form-requires : tie.Need-form-requires
 form-requires c κs = search needs
 
 field-behind-requires : tie.Need-field-behind-requires
-field-behind-requires c κs = search (word-ends)
+field-behind-requires c κs = search (first-ends)
 
 enum-known-a : tie.Need-enum-known-a
 enum-known-a c = search needs
@@ -55,7 +56,7 @@ form-requires-2 c κs = search needs
 field-behind-requires-2 : tie.Need-field-behind-requires-2
 field-behind-requires-2 c κs =
     let first = c .before .before in
-    behind-ends _ _ _ _ (first .before .before .field-behind .ensures) (field-behind-requires (first .before .before .before) κs) _ _ (first .a .given .1)
+    field-ends _ _ _ _ (first .before .before .field-behind .ensures) (field-behind-requires (first .before .before .before) κs) _ _ (first .a .given .1)
 
 enum-known-b : tie.Need-enum-known-b
 enum-known-b c = search needs
@@ -73,7 +74,7 @@ form-requires-3 c κs = search needs
 field-behind-requires-3 : tie.Need-field-behind-requires-3
 field-behind-requires-3 c κs =
     let second = c .before .before in
-    behind-ends _ _ _ _ (second .before .before .field-behind2 .ensures) (field-behind-requires-2 (second .before .before .before) κs) _ _ (second .b .given .1)
+    field-ends _ _ _ _ (second .before .before .field-behind2 .ensures) (field-behind-requires-2 (second .before .before .before) κs) _ _ (second .b .given .1)
 
 enum-known-c : tie.Need-enum-known-c
 enum-known-c c = search needs

@@ -1,7 +1,8 @@
 -- `value_width` meets its contract.
 use borrow.Author.Needs.{needs}
 use Rattle.text.proofs.Numbers.{length-digits}
-use Rattle.row.specs.Kinds.{kindWords, modeWords, etherWord}
+use Rattle.text.specs.Fields.{etherWord}
+use Rattle.row.specs.Kinds.{kindWords, modeWords}
 use Rattle.row.proofs.Turns.{text-number, text-kind, text-mode, text-ether, text-codel}
 use Rattle.row.proofs.value_width.Statement.{statement}
 use Rattle.row.proofs.value_width.Tie as tie

@@ -5,6 +5,9 @@ use Rattle.table.specs.Tables.{narrowed}
 use Rattle.table.proofs.narrow.Statement.{statement}
 use Rattle.table.proofs.narrow.Tie as tie
 
+cast-if1 : tie.Need-cast-if1
+cast-if1 c = search needs
+
 cast-result : tie.Need-cast-result
 cast-result c = search needs
 
@@ -17,4 +20,4 @@ unfolding narrowed
 returns-2 c = omega arith
 
 pub narrow-spec : {M : Type 1} → statement M
-narrow-spec = tie.close (tie.spec cast-result returns returns-2)
+narrow-spec = tie.close (tie.spec cast-if1 cast-result returns returns-2)

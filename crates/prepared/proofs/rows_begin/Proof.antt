@@ -1,8 +1,8 @@
--- `edges_begin` meets its contract.
+-- `rows_begin` meets its contract.
 use borrow.Author.Needs.{needs}
 use Rattle.prepared.proofs.Stored.{begin-at}
-use Rattle.prepared.proofs.edges_begin.Statement.{statement}
-use Rattle.prepared.proofs.edges_begin.Tie as tie
+use Rattle.prepared.proofs.rows_begin.Statement.{statement}
+use Rattle.prepared.proofs.rows_begin.Tie as tie
 
 returns : tie.Need-returns
 returns c = search needs
@@ -25,7 +25,7 @@ size-requires c κs = search needs
 returns-2 : tie.Need-returns-2
 returns-2 c = search (begin-at)
 
-pub edges-begin-spec : {M : Type 1} → statement M
-edges-begin-spec =
+pub rows-begin-spec : {M : Type 1} → statement M
+rows-begin-spec =
     tie.close
     (tie.spec returns sub-size add-size mul-size shared-slice-read-size size-requires returns-2)
