@@ -19,7 +19,7 @@ const WORDS: [u8; 29] = *b"task\tact\tcodel\tedge\tmutex\tend";
 // What a field says: nothing, a number, a codel's kind, an edge's mode; any other form is a codel or `ether`.
 pub const NO_FIELD: usize = 0;
 
-pub const A_NUMBER: usize = 1;
+const A_NUMBER: usize = 1;
 
 pub const A_KIND: usize = 2;
 

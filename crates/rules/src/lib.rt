@@ -118,7 +118,7 @@ fn fired(x: Task) -> Task
 }
 
 // "Timer 0, signal set; if it was set already while managing, missed grows by 1", on a task's record that is lent.
-pub fn fire(x: &mut Task)
+fn fire(x: &mut Task)
     requires { ⌜ now x .missed ≤ ceiling ⌝ }
     ensures { λ _. ⌜ now (x .exit) ≡ signalled (now (x .entry)) ⌝ }
 {

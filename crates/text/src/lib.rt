@@ -19,7 +19,7 @@ pub const TAB: u8 = 9;
 pub const NEWLINE: u8 = 10;
 
 // How many digits a set has.
-pub const SET_DIGITS: usize = 16;
+const SET_DIGITS: usize = 16;
 
 // "Numbers are decimal, one to ten digits": the most that a number of a table or a log has.
 pub const MOST_DIGITS: usize = 10;
