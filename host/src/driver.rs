@@ -91,7 +91,7 @@ impl Driver {
 
     /// Random cases, intact and damaged, in batches.
     pub fn compare_random(&self, s: &mut Source, count: usize, hits: &mut Hits) {
-        for _ in 0..count / BATCH {
+        for _ in 0..(count + BATCH - 1) / BATCH {
             let mut cases: Vec<Case> = (0..BATCH).map(|_| any_case(s)).collect();
             cases.extend((0..3).map(|_| ceiling_case(s)));
             self.compare_in_any_room(s, &cases, hits);
