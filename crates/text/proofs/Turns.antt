@@ -8,7 +8,7 @@ use native.Mathlib.Numerals.{add-one}
 use native.Mathlib.Nat.{pow-suc, pow-le-pow-right, add-zero, mod-lt}
 use lib.Arith.{digits-lt}
 use lib.ListN.{length, getD, drop, take, set, drop-of-length-le, length-drop}
-use lib.Seq.{drop-cons, sets, length-take-le}
+use lib.Seq.{drop-cons, sets, take-all, length-take-le}
 use lib.Dec.{leb}
 use borrow.Author.Tests.{lt-ltb, le-ltb, eq-eqb, ne-eqb, le-leb, lt-leb, leb-true, not-true, not-false}
 use Rattle.text.specs.Parts.{firstAt, partsFrom, fieldFrom, fieldAt}
@@ -298,10 +298,22 @@ module _ (k : ℕ) (s : List ℕ) where
   unfolding readSet
   set-bad h = rw (ne-eqb _ _ h)
 
-  -- as many
-  pub set-whole : (r : Number) → r ≡ scan 16 0 s → length s ≡ k → r ≡ readSet k s
-  unfolding readSet
-  set-whole r e h = rw (eq-eqb _ _ h) e
+  -- as many: what follows the first i says the same
+  module _ (i : ℕ) (h : i ≤ length s) where
+    rest : take (length s - i) (drop i s) ≡ drop i s
+    rest = take-all (length s - i) (drop i s) (omega (arith, length-drop i s))
+
+    pub set-fits : length s ≡ k → length (take (length s - i) (drop i s)) ≤ k
+    set-fits e = rw rest (omega (arith, length-drop i s))
+
+    pub set-whole : (r : Number) → scan 16 0 (drop i s) ≡ scan 16 0 s → r ≡ scan 16 0 (take (length s - i) (drop i s)) → length s ≡ k → r ≡ readSet k s
+    unfolding readSet
+    set-whole r z e q = rw (eq-eqb _ _ q) (e ∙ rw rest z)
+
+-- a zero before other digits adds nothing
+pub zero-more : (s : List ℕ) (i : ℕ) (r : Number) → scan 16 0 (drop i s) ≡ r → i < length s → getD s i 0 ≡ 48 → scan 16 0 (drop (i + 1) s) ≡ r
+unfolding valueOf
+zero-more s i r now h e = rw add-one (rw (drop-cons s i 0 h, e) at now)
 
 -- fewer digits are no larger
 pub power-fits : (base n m : ℕ) → 0 < base → n ≤ m → base ^ m ≤ 18446744073709551616 → base ^ n ≤ 18446744073709551616

@@ -1,7 +1,7 @@
 // Bytes: the numbers, sets, words, lines and fields of which tables, logs and reports are made.
 ghost use mathlib.Core.Path.{_≡_};
 ghost use Prim.Native.Nat.{_+_, _-_, _<_, _≤_, _^_};
-ghost use lib.ListN.{length};
+ghost use lib.ListN.{length, drop};
 ghost use lib.Seq.{sets};
 ghost use lib.Dec.{leb};
 ghost use Rattle.text.specs.Parts.{firstAt, fieldAt};
@@ -156,6 +156,20 @@ pub fn read_number(s: &[u8], most: usize) -> Number
     read_digits(s, 10)
 }
 
+// Where the zeros end that a field begins with: most of a set's digits are zeros, and they add nothing.
+fn past_zeros(s: &[u8]) -> usize
+    ensures { λ r. ⌜ (r ≤ length (now (s .entry))) × (scan 16 0 (drop r (now (s .entry))) ≡ scan 16 0 (now (s .entry))) ⌝ }
+{
+    let mut i = 0;
+    while i < s.len() {
+        if s[i] != 48 {
+            return i;
+        }
+        i += 1;
+    }
+    i
+}
+
 // What a field says as a set.
 pub fn read_set(s: &[u8]) -> Number
     ensures { λ r. ⌜ r ≡ readSet setDigits (now (s .entry)) ⌝ }
@@ -163,7 +177,8 @@ pub fn read_set(s: &[u8]) -> Number
     if s.len() != SET_DIGITS {
         return Number::Bad;
     }
-    read_digits(s, 16)
+    let i = past_zeros(s);
+    read_digits(&s[i..], 16)
 }
 
 // How many digits a number has.
