@@ -1,5 +1,5 @@
 -- One law for each turn and each exit of the code: `now` is what the definition says of what is left, `r` what it says of the whole.
-use Prim.Native.Nat.{ℕ, zero, suc, _+_, _-_, _*_, _/_, _%_, _^_, _≤_, _<_}
+use Prim.Native.Nat.{ℕ, suc, _+_, _-_, _*_, _/_, _%_, _^_, _≤_, _<_}
 use mathlib.Core.Path.{_≡_, refl, sym, ap, _∙_}
 use mathlib.Core.List.{List, [], _∷_, _++_}
 use mathlib.Core.Bool.{Bool, true, false, not}
@@ -32,20 +32,6 @@ use Rattle.text.proofs.Digits.{length-pad}
 use Rattle.text.proofs.Numbers.{length-digits}
 use Rattle.text.proofs.Puts.{sets-append, sets-set, put-nothing}
 use Rattle.text.proofs.Words.{same-list, word-stands, word-past}
-
--- the powers of ten, m of them from 10 ^ w on
-abbrev tens : ℕ → ℕ → List ℕ
-tens zero w = []
-tens (suc m) w = 10 ^ w ∷ tens m (suc w)
-
-tens-from : (m w k : ℕ) → k < m → getD (tens m w) k 0 ≡ 10 ^ (w + k)
-tens-from zero w k h = absurd (omega arith)
-tens-from (suc m) w zero h = rw add-zero
-tens-from (suc m) w (suc k) h = let e : w + suc k ≡ suc w + k = omega arith in rw e (tens-from m (suc w) k (omega arith))
-
--- entry k of a table of the first powers of ten
-pub tens-at : (m k : ℕ) → k < m → getD (tens m 0) k 0 ≡ 10 ^ k
-tens-at m k h = let e : 0 + k ≡ k = omega arith in rw e at (tens-from m 0 k h)
 
 -- whether there is room
 module _ (have at many : ℕ) where
@@ -102,10 +88,6 @@ module _ (base v i d : ℕ) (b : v < base ^ i) (l : d < base) where
 
 -- how many digits a number has
 module _ (n w r : ℕ) (now : widthFrom (20 - w) w n ≡ r) where
-  -- after the last power tried
-  pub width-end : 20 ≤ w → w ≡ r
-  width-end h = let e : 20 - w ≡ 0 = omega arith in rw e at now
-
   module _ (p : ℕ) (e : p ≡ 10 ^ w) (h : w < 20) where
     fuel : 20 - w ≡ suc (20 - suc w)
     fuel = omega arith
@@ -117,6 +99,22 @@ module _ (n w r : ℕ) (now : widthFrom (20 - w) w n ≡ r) where
     -- a power that is not above it
     pub width-more : p ≤ n → widthFrom (20 - (w + 1)) (w + 1) n ≡ r
     width-more l = let k : 10 ^ w ≤ n = rw e at l in rw (add-one w) (rw (fuel, le-ltb _ _ k) at now)
+
+    -- one more than the widest is the most that there are
+    pub width-last : 19 ≤ w → p ≤ n → w + 1 ≡ r
+    width-last m l = let z : 20 - (w + 1) ≡ 0 = omega arith in rw z at (width-more l)
+
+-- the powers of ten up to the widest fit
+power-most : (w : ℕ) → w ≤ 19 → 10 ^ w ≤ 10000000000000000000
+power-most w h = pow-le-pow-right (omega arith) h
+
+-- the next power of ten, and that it fits
+module _ (w p : ℕ) (e : p ≡ 10 ^ w) where
+  pub power-next : p * 10 ≡ 10 ^ (w + 1)
+  power-next = rw (e, add-one, pow-suc)
+
+  pub power-small : w < 19 → p * 10 < 18446744073709551616
+  power-small h = omega (arith, power-next, power-most (w + 1) (omega arith))
 
 -- a digit of a base up to sixteen is a digit
 pub digit-small : (base left : ℕ) → 0 < base → base ≤ 16 → left % base < 16

@@ -54,37 +54,6 @@ pub enum Got {
     Bad,
 }
 
-// The powers of ten that 64 bits hold.
-const TENS: [u64; 20] = [
-    1,
-    10,
-    100,
-    1000,
-    10000,
-    100000,
-    1000000,
-    10000000,
-    100000000,
-    1000000000,
-    10000000000,
-    100000000000,
-    1000000000000,
-    10000000000000,
-    100000000000000,
-    1000000000000000,
-    10000000000000000,
-    100000000000000000,
-    1000000000000000000,
-    10000000000000000000,
-];
-
-fn ten_to(k: usize) -> u64
-    requires { ⌜ k < 20 ⌝ }
-    ensures { λ r. ⌜ r ≡ 10 ^ k ⌝ }
-{
-    TENS[k]
-}
-
 // The digit of a byte, or 16.
 fn value(b: u8) -> u64
     ensures { λ r. ⌜ r ≡ valueOf b ⌝ }
@@ -186,13 +155,18 @@ pub fn width(n: u64) -> usize
     ensures { λ r. ⌜ r ≡ widthOf n ⌝ }
 {
     let mut w = 1;
-    while w < 20 {
-        if n < ten_to(w) {
+    let mut power: u64 = 10;
+    while w < WIDEST {
+        if n < power {
             return w;
         }
         w += 1;
+        power *= 10;
     }
-    w
+    if n < power {
+        return w;
+    }
+    w + 1
 }
 
 // Is there room for so many bytes at a place of a buffer of that length?
