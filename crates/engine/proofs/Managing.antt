@@ -22,16 +22,14 @@ use Rattle.waits.specs.Beside.{listedOf, listedIn}
 use Rattle.waits.proofs.Beside.{map-set}
 use Rattle.waits.proofs.Facts.{act-of}
 use Rattle.engine.specs.Tallies.{afterSm}
-use Rattle.engine.specs.Play.{ranOf}
 use Rattle.engine.specs.Turns.{isSm, smBy, flagged, flaggedFrom}
 use Rattle.engine.specs.declared.Tally.{Tally}
 use Rattle.engine.specs.declared.Ruling.the-variants.{Open}
-use Rattle.engine.specs.declared.Stop.the-variants.{Refused}
 use Rattle.engine.specs.declared.Ran.{Ran}
 use Rattle.engine.proofs.StepKinds.{sm-is}
 use Rattle.engine.proofs.Tallying.{sm-counts, sm-roomy}
 use Rattle.engine.proofs.Flags.{flagged-none, flagged-more, flagged-busy, flagged-next}
-use Rattle.engine.proofs.Runs.{Scene, table, GoesOn, StopsAs, Goes, here, sound-here, less-left, turn-stops, turn-open}
+use Rattle.engine.proofs.Runs.{Scene, table, GoesOn, StopsAs, RefusedAs, Goes, here, sound-here, less-left, turn-stops, turn-open}
 use Rattle.engine.proofs.Naming.{Names, task-there}
 
 -- the activities of the task t stand from the first up to the end
@@ -92,7 +90,7 @@ module _ {σ : Scene} {t n : ℕ} (M : Manages σ t n) where
       M .number ∙ rw (M .step, T-true (ltb t (table σ .ntasks)) k)
 
   -- it is refused
-  pub sm-stops : (n ≡ 0 → ⊥) → (r : Ran) → r ≡ ranOf (σ .state) (σ .busy) (σ .listed) (σ .tally) (σ .at) (Refused n) → StopsAs σ r
+  pub sm-stops : (n ≡ 0 → ⊥) → (r : Ran) → RefusedAs σ n r → StopsAs σ r
   sm-stops = turn-stops (M .names .turn) n is-refusal
 
   pub lists-none : {first end : ℕ} → first ≡ beginOf (σ .index) actsAt t → end ≡ endOf (σ .index) actsAt t → Lists (σ .rows) (σ .index) (σ .step) t first end (σ .state) (σ .state) (σ .listed) first

@@ -20,12 +20,10 @@ use Rattle.prepared.proofs.Stored.{most-tasks, most-acts}
 use Rattle.rules.specs.Local.{named, taskIn, actIn, ofTask}
 use Rattle.rules.proofs.Steps.{task-unnamed, local-unnamed}
 use Rattle.waits.proofs.Facts.{place-known, missed-fits, act-in, task-in}
-use Rattle.engine.specs.Play.{ranOf}
 use Rattle.engine.specs.Turns.{isSm}
-use Rattle.engine.specs.declared.Stop.the-variants.{Refused}
 use Rattle.engine.specs.declared.Ran.{Ran}
 use Rattle.engine.proofs.StepKinds.{sm-is, act-is}
-use Rattle.engine.proofs.Runs.{busy-sized, listed-sized, Scene, table, Turn, StopsAs, here, sound-here, turn-stops}
+use Rattle.engine.proofs.Runs.{busy-sized, listed-sized, Scene, table, Turn, StopsAs, RefusedAs, here, sound-here, turn-stops}
 
 unnamed : (K : Table) (s : State) (x : Step) → isWait x ≡ false → named K x ≡ false → refusal K s x ≡ 12
 unfolding refusal named
@@ -44,7 +42,7 @@ pub record Names (σ : Scene) : Type 0 where
   pub named : T (named (table σ) (σ .step))
 
 module _ {σ : Scene} (Z : Turn σ) (w : Bool) (e : w ≡ isWait (σ .step)) (f : w ≡ false) (ok : Bool) (q : ok ≡ named (table σ) (σ .step)) where
-  pub rows-missing : not ok ≡ true → (r : Ran) → r ≡ ranOf (σ .state) (σ .busy) (σ .listed) (σ .tally) (σ .at) (Refused 12) → StopsAs σ r
+  pub rows-missing : not ok ≡ true → (r : Ran) → RefusedAs σ 12 r → StopsAs σ r
   rows-missing h = turn-stops Z 12 (sym (unnamed (table σ) (σ .state) (σ .step) (sym e ∙ f) (sym q ∙ not-true ok h))) (λ z. omega arith)
 
   pub turn-names : not ok ≡ false → Names σ

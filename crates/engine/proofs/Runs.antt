@@ -1,14 +1,18 @@
--- A run, line after line: what its loop keeps, where it stops, and how an accepted step takes it on.
+-- A run, line after line: what its loop keeps, where it stops, how an accepted step takes it on, and how the row of a kept cycle is told.
 use Prim.Native.Nat.{ℕ, _+_, _-_, _≤_, _<_}
-use mathlib.Core.List.{List, [], _∷_}
+use mathlib.Core.List.{List, [], _∷_, _++_, append-assoc, append-nil}
 use mathlib.Core.Path.{_≡_, refl, ap, sym, subst⁻¹, _∙_}
 use native.Mathlib.Omega.{arith}
-use borrow.Author.Tests.{ne-eqb}
+use borrow.Author.Tests.{ne-eqb, le-leb, lt-leb}
 use lib.Dec.{T}
 use types.Run.{OneOf, hit, miss}
 use denote.Enum.Declared.{tagOf}
-use lib.ListN.{length, length-map}
+use lib.ListN.{length, length-map, length-append}
+use lib.Seq.{sets, length-sets}
 use Rattle.text.specs.Parts.{firstAt}
+use Rattle.text.specs.Put.{Put}
+use Rattle.text.proofs.Picks.{order}
+use Rattle.text.proofs.Puts.{put-fits, put-short, sets-append}
 use Rattle.text.proofs.Turns.{part-starts}
 use Rattle.model.specs.Tables.{Table}
 use Rattle.model.specs.Rules.{refusal, next}
@@ -23,11 +27,13 @@ use Rattle.model.proofs.StepsKeep.{step-keeps}
 use Rattle.prepared.specs.Prepared.{tableIn, Prepared}
 use Rattle.prepared.proofs.Stored.{shape}
 use Rattle.waits.specs.Beside.{busyOf, listedOf, busyIn, listedIn}
-use Rattle.engine.specs.Tallies.{cycleOf, rulingOf, tallied, Roomy}
-use Rattle.engine.specs.Play.{Played, pieces, stopped, onVerdict, onStep, played, ranOf, Ready, isClosed, Runs}
+use Rattle.report.specs.Rows.{cycleOf, cycleText}
+use Rattle.report.specs.declared.Cycle.{Cycle}
+use Rattle.report.proofs.Lines.{put-length, row-some}
+use Rattle.engine.specs.Tallies.{rulingOf, tallied, Roomy}
+use Rattle.engine.specs.Play.{Played, pieces, told, stopped, telling, onKept, onVerdict, onStep, played, ranOf, Ready, isClosed, Runs}
 use Rattle.engine.specs.Turns.{lineAt}
 use Rattle.engine.specs.declared.Tally.{Tally}
-use Rattle.engine.specs.declared.Cycle.{Cycle}
 use Rattle.engine.specs.declared.Ruling.{Ruling}
 use Rattle.engine.specs.declared.Ruling.the-variants.{Open, Kept}
 use Rattle.engine.specs.declared.Stop.{Stop}
@@ -47,6 +53,26 @@ pub record Stands (K : Table) (log : List ℕ) (from : ℕ) (s : State) (b l : L
   pub listed : l ≡ listedIn s
   pub roomy : Roomy c (length log - at)
 
+-- the rows written so far into a buffer that was lent, from a place on
+pub record Rows (lent : List ℕ) (place : ℕ) (buf : List ℕ) (end : ℕ) : Type 0 where
+  pub text : List ℕ
+  pub fits : place + length text ≤ length lent
+  pub filled : end ≡ place + length text
+  pub bytes : buf ≡ sets lent place text
+
+-- and the lines from there on come, behind those rows, to what all come to from the start
+pub record Plays (K : Table) (log : List ℕ) (from : ℕ) (s₀ : State) (c₀ : Tally) (lent : List ℕ) (place : ℕ) (s : State) (b l : List ℕ) (c : Tally) (at : ℕ) (buf : List ℕ) (filled : ℕ) : Type 0 where
+  pub here : Stands K log from s b l c at
+  pub rows : Rows lent place buf filled
+  pub rest : telling (rows .text) (played K s c (length lent - filled) (pieces log at)) ≡ played K s₀ c₀ (length lent - place) (pieces log from)
+
+-- rows told before nothing, and before a row more
+telling-none : (text : List ℕ) (s : State) (c : Tally) (w : Stop) (ps : List (List ℕ)) → telling text (stopped s c w ps) ≡ told text s c w ps
+telling-none text s c w ps = ap (λ l. told l s c w ps) (append-nil text)
+
+telling-more : (text row : List ℕ) (p : Played) → telling text (telling row p) ≡ telling (text ++ row) p
+telling-more text row p = ap (λ l. told l (p .state) (p .tally) (p .stop) (p .rest)) (sym (append-assoc text row (p .text)))
+
 module _ {K : Table} {log : List ℕ} {from : ℕ} {s : State} {b l : List ℕ} {c : Tally} {at : ℕ} (H : Stands K log from s b l c at) where
   pub busy-sized : 64 ≡ length b
   busy-sized = sym (ap length (H .busy) ∙ length-map (s .acts) busyOf ∙ H .sound .shape .acts)
@@ -54,49 +80,67 @@ module _ {K : Table} {log : List ℕ} {from : ℕ} {s : State} {b l : List ℕ} 
   pub listed-sized : 64 ≡ length l
   listed-sized = sym (ap length (H .listed) ∙ length-map (s .acts) listedOf ∙ H .sound .shape .acts)
 
-  -- a run that stops there
-  stops-at : {g : Going} (w : Stop) → stopped s c w (pieces log at) ≡ played K (g .state) (g .tally) (pieces log from) → (T (isClosed w) → from < at) → (r : Ran) → r ≡ ranOf s b l c at w → Runs K log from g r
-  stops-at {g = g} w e n r q = subst⁻¹ (λ r. Runs K log from g r) q (record {
+-- the buffer keeps its length
+pub rows-kept : {lent buf : List ℕ} {place filled : ℕ} → Rows lent place buf filled → length buf ≡ length lent
+rows-kept {lent} {place = place} R = ap length (R .bytes) ∙ length-sets lent place (R .text)
+
+-- a row more behind them
+rows-more : {lent buf : List ℕ} {place end : ℕ} (R : Rows lent place buf end) (row : List ℕ) → sets buf end row ≡ sets lent place (R .text ++ row)
+rows-more {lent} {place = place} R row = rw (R .bytes, R .filled) (sym (sets-append lent place (R .text) row))
+
+-- a run that stops where a line starts
+module _ (K : Table) (log : List ℕ) (from : ℕ) (g : Going) {lent : List ℕ} {place : ℕ} {s : State} {b l : List ℕ} {c : Tally} {at : ℕ} {buf : List ℕ} {filled : ℕ}
+    (H : Stands K log from s b l c at) (R : Rows lent place buf filled) where
+  stops-at : (w : Stop) → telling (R .text) (stopped s c w (pieces log at)) ≡ played K (g .state) (g .tally) (length lent - place) (pieces log from) → (T (isClosed w) → from < at)
+      → (r : Ran) → r ≡ ranOf s b l c at filled w → Runs K log from g lent place r buf
+  stops-at w e n r q = subst⁻¹ (λ r. Runs K log from g lent place r buf) q (record {
+    text = R .text;
+    played = sym (telling-none (R .text) s c w (pieces log at)) ∙ e;
+    fits = R .fits;
+    filled = R .filled;
+    bytes = R .bytes;
     within = H .within;
-    played = e;
     onward = n;
     ready = record { sound = of-sound K s (H .sound); busy = H .busy; listed = H .listed };
     roomy = H .roomy;
   })
 
--- and the lines from there on come to what all come to from the start
-pub record Plays (K : Table) (log : List ℕ) (from : ℕ) (s₀ : State) (c₀ : Tally) (s : State) (b l : List ℕ) (c : Tally) (at : ℕ) : Type 0 where
-  pub here : Stands K log from s b l c at
-  pub rest : played K s c (pieces log at) ≡ played K s₀ c₀ (pieces log from)
-
-module _ (K : Table) (log : List ℕ) (from : ℕ) (g : Going) where
+module _ (K : Table) (log : List ℕ) (from : ℕ) (g : Going) (lent : List ℕ) (place : ℕ) where
   -- the start
-  pub run-starts : Shaped (g .state) → Ready K g → from ≤ length log → Roomy (g .tally) (length log - from) → Plays K log from (g .state) (g .tally) (g .state) (g .busy) (g .listed) (g .tally) from
-  run-starts h R l m = record {
+  pub run-starts : Shaped (g .state) → Ready K g → from ≤ length log → Roomy (g .tally) (length log - from) → place ≤ length lent
+      → Plays K log from (g .state) (g .tally) lent place (g .state) (g .busy) (g .listed) (g .tally) from lent place
+  run-starts h R l m p = record {
     here = record { within = l; onward = omega arith; sound = sound-of K (g .state) h (R .sound); busy = R .busy; listed = R .listed; roomy = m };
+    rows = record { text = []; fits = omega arith; filled = omega arith; bytes = refl };
     rest = refl;
   }
 
-  module _ {s : State} {b l : List ℕ} {c : Tally} {at : ℕ} (Z : Plays K log from (g .state) (g .tally) s b l c at) (r : Ran) where
+  module _ {s : State} {b l : List ℕ} {c : Tally} {at : ℕ} {buf : List ℕ} {filled : ℕ} (Z : Plays K log from (g .state) (g .tally) lent place s b l c at buf filled) (r : Ran) where
+    -- it stops at a line
+    stops-here : (w : Stop) → played K s c (length lent - filled) (pieces log at) ≡ stopped s c w (pieces log at) → (T (isClosed w) → from < at) → r ≡ ranOf s b l c at filled w
+        → Runs K log from g lent place r buf
+    stops-here w e n = stops-at K log from g (Z .here) (Z .rows) w (ap (telling (Z .rows .text)) (sym e) ∙ Z .rest) n r
+
     -- the log's end
-    pub run-ends : length log ≤ at → r ≡ ranOf s b l c at End → Runs K log from g r
-    run-ends h = stops-at (Z .here) End (sym (at-end K s c log at h) ∙ Z .rest) (λ t. absurd t) r
+    pub run-ends : length log ≤ at → r ≡ ranOf s b l c at filled End → Runs K log from g lent place r buf
+    run-ends h = stops-here End (at-end K s c (length lent - filled) log at h) (λ t. absurd t)
 
     -- a line that is not a step
-    pub run-bad : (e : ℕ) → at < length log → e ≡ firstAt log at 10 → (x : Line) → x ≡ lineAt log at e → x ≡ Bad → r ≡ ranOf s b l c at (Refused 11) → Runs K log from g r
-    run-bad e h f x q i = stops-at (Z .here) (Refused 11) (sym (at-bad K s c log at e h f (sym q ∙ i)) ∙ Z .rest) (λ t. absurd t) r
+    pub run-bad : (e : ℕ) → at < length log → e ≡ firstAt log at 10 → (x : Line) → x ≡ lineAt log at e → x ≡ Bad → r ≡ ranOf s b l c at filled (Refused 11)
+        → Runs K log from g lent place r buf
+    run-bad e h f x q i = stops-here (Refused 11) (at-bad K s c (length lent - filled) log at e h f (sym q ∙ i)) (λ t. absurd t)
 
 -- what an accepted step comes to, by its verdict as the code has it
-module _ (s : State) (c : Tally) (ls : List (List ℕ)) (go : Played) where
+module _ (s : State) (c : Tally) (room : ℕ) (ls : List (List ℕ)) (go : ℕ → Played) where
   -- every verdict but that it is kept
-  on-passed : (v : Verdict) → OneOf (0 ∷ 2 ∷ []) (tagOf the-type (rulingOf v)) → onVerdict v s c ls go ≡ go
+  on-passed : (v : Verdict) → OneOf (0 ∷ 2 ∷ []) (tagOf the-type (rulingOf v)) → onVerdict v s c room ls go ≡ go room
   on-passed none h = refl
   on-passed (kept r) h = absurd (miss (0 ∷ 2 ∷ []) 1 tt h)
   on-passed dropped h = refl
 
-  on-kept : (v : Verdict) (k : Cycle) → rulingOf v ≡ Kept k → onVerdict v s c ls go ≡ stopped s c (Closed k) ls
+  on-kept : (v : Verdict) (k : Cycle) → rulingOf v ≡ Kept k → onVerdict v s c room ls go ≡ onKept k s c room ls go
   on-kept none k e = let z : _≡_ {A = ℕ} 0 1 = cc in absurd (omega arith)
-  on-kept (kept r) k e = let q : cycleOf r ≡ k = cc in ap (λ k. stopped s c (Closed k) ls) q
+  on-kept (kept r) k e = let q : cycleOf r ≡ k = cc in ap (λ k. onKept k s c room ls go) q
   on-kept dropped k e = let z : _≡_ {A = ℕ} 0 1 = cc in absurd (omega arith)
 
 -- the values of a turn: what the run was given, what it has reached, the place of the next newline, and the step read
@@ -106,27 +150,41 @@ pub record Scene : Type 0 where
   pub log : List ℕ
   pub from : ℕ
   pub start : Going
+  pub lent : List ℕ
+  pub place : ℕ
   pub state : State
   pub busy : List ℕ
   pub listed : List ℕ
   pub tally : Tally
   pub at : ℕ
+  pub buf : List ℕ
+  pub filled : ℕ
   pub newline : ℕ
   pub step : Step
 
 abbrev pub table : Scene → Table
 table σ = tableIn (σ .rows) (σ .index)
 
--- the run goes on, and stops, with these values
+-- the run has come to these values, goes on with them, and stops
+abbrev pub ComesTo : Scene → State → List ℕ → List ℕ → Tally → ℕ → List ℕ → ℕ → Type 0
+ComesTo σ w b l d at buf filled = Plays (table σ) (σ .log) (σ .from) (σ .start .state) (σ .start .tally) (σ .lent) (σ .place) w b l d at buf filled
+
 abbrev pub GoesOn : Scene → State → List ℕ → List ℕ → Tally → Type 0
-GoesOn σ w b l d = Plays (table σ) (σ .log) (σ .from) (σ .start .state) (σ .start .tally) w b l d (σ .newline + 1)
+GoesOn σ w b l d = ComesTo σ w b l d (σ .newline + 1) (σ .buf) (σ .filled)
 
 abbrev pub StopsAs : Scene → Ran → Type 0
-StopsAs σ r = Runs (table σ) (σ .log) (σ .from) (σ .start) r
+StopsAs σ r = Runs (table σ) (σ .log) (σ .from) (σ .start) (σ .lent) (σ .place) r (σ .buf)
 
--- what all lines come to from the start, and the lines behind the next newline
+-- it is refused at its line with a number
+abbrev pub RefusedAs : Scene → ℕ → Ran → Type 0
+RefusedAs σ n r = r ≡ ranOf (σ .state) (σ .busy) (σ .listed) (σ .tally) (σ .at) (σ .filled) (Refused n)
+
+-- what all lines come to from the start, the room that is left, and the lines behind the next newline
 abbrev whole : Scene → Played
-whole σ = played (table σ) (σ .start .state) (σ .start .tally) (pieces (σ .log) (σ .from))
+whole σ = played (table σ) (σ .start .state) (σ .start .tally) (length (σ .lent) - σ .place) (pieces (σ .log) (σ .from))
+
+abbrev left : Scene → ℕ
+left σ = length (σ .lent) - σ .filled
 
 abbrev behind : Scene → List (List ℕ)
 behind σ = pieces (σ .log) (σ .newline + 1)
@@ -138,12 +196,13 @@ given σ = verdict (table σ) (σ .state) (σ .step)
 -- a turn of the loop at a step's line
 pub record Turn (σ : Scene) : Type 0 where
   pub prepared : Prepared (σ .rows) (σ .index)
-  pub plays : Plays (table σ) (σ .log) (σ .from) (σ .start .state) (σ .start .tally) (σ .state) (σ .busy) (σ .listed) (σ .tally) (σ .at)
+  pub plays : ComesTo σ (σ .state) (σ .busy) (σ .listed) (σ .tally) (σ .at) (σ .buf) (σ .filled)
   pub inside : σ .at < length (σ .log)
   pub ends : σ .newline ≡ firstAt (σ .log) (σ .at) 10
   pub line : lineAt (σ .log) (σ .at) (σ .newline) ≡ Is (σ .step)
 
-pub turn-is : {σ : Scene} → Prepared (σ .rows) (σ .index) → Plays (table σ) (σ .log) (σ .from) (σ .start .state) (σ .start .tally) (σ .state) (σ .busy) (σ .listed) (σ .tally) (σ .at) → σ .at < length (σ .log) → σ .newline ≡ firstAt (σ .log) (σ .at) 10 → (x : Line) → x ≡ lineAt (σ .log) (σ .at) (σ .newline) → x ≡ Is (σ .step) → Turn σ
+pub turn-is : {σ : Scene} → Prepared (σ .rows) (σ .index) → ComesTo σ (σ .state) (σ .busy) (σ .listed) (σ .tally) (σ .at) (σ .buf) (σ .filled) → σ .at < length (σ .log)
+    → σ .newline ≡ firstAt (σ .log) (σ .at) 10 → (x : Line) → x ≡ lineAt (σ .log) (σ .at) (σ .newline) → x ≡ Is (σ .step) → Turn σ
 turn-is P Z h f x q i = record { prepared = P; plays = Z; inside = h; ends = f; line = sym q ∙ i }
 
 -- the step is accepted: what stands behind it, and its verdict
@@ -169,7 +228,7 @@ module _ {σ : Scene} (Z : Turn σ) where
 
   -- the newline stands inside the log, and behind it fewer bytes are left
   pub newline-inside : σ .newline < length (σ .log)
-  newline-inside = step-ends (table σ) (σ .state) (σ .tally) (σ .log) (σ .at) (σ .newline) (Z .inside) (Z .ends) (σ .step) (Z .line)
+  newline-inside = step-ends (table σ) (σ .state) (σ .tally) (left σ) (σ .log) (σ .at) (σ .newline) (Z .inside) (Z .ends) (σ .step) (Z .line)
 
   onward : σ .at ≤ σ .newline
   onward = part-starts (σ .log) (σ .at) (σ .newline) 10 (here .within) (Z .ends)
@@ -181,12 +240,16 @@ module _ {σ : Scene} (Z : Turn σ) where
   pub room-for-one : Roomy (σ .tally) 1
   room-for-one = roomy-one (σ .tally) _ (here .roomy) (omega (arith, Z .inside))
 
-  played-here : whole σ ≡ onStep (table σ) (σ .state) (σ .tally) (σ .step) (pieces (σ .log) (σ .at)) (behind σ) (λ w d. played (table σ) w d (behind σ))
-  played-here = sym (Z .plays .rest) ∙ at-step (table σ) (σ .state) (σ .tally) (σ .log) (σ .at) (σ .newline) (Z .inside) (Z .ends) (σ .step) (Z .line)
+  -- the rows written so far
+  abbrev rows-here : Rows (σ .lent) (σ .place) (σ .buf) (σ .filled)
+  rows-here = Z .plays .rows
+
+  played-here : whole σ ≡ telling (rows-here .text) (onStep (table σ) (σ .state) (σ .tally) (left σ) (σ .step) (pieces (σ .log) (σ .at)) (behind σ) (λ w d n. played (table σ) w d n (behind σ)))
+  played-here = sym (Z .plays .rest) ∙ ap (telling (rows-here .text)) (at-step (table σ) (σ .state) (σ .tally) (left σ) (σ .log) (σ .at) (σ .newline) (Z .inside) (Z .ends) (σ .step) (Z .line))
 
   -- the step is refused
-  pub turn-stops : (n : ℕ) → n ≡ refusal (table σ) (σ .state) (σ .step) → (n ≡ 0 → ⊥) → (r : Ran) → r ≡ ranOf (σ .state) (σ .busy) (σ .listed) (σ .tally) (σ .at) (Refused n) → StopsAs σ r
-  turn-stops n q z = stops-at here (Refused n) (sym (played-here ∙ rw (← q, ne-eqb n 0 z))) (λ t. absurd t)
+  pub turn-stops : (n : ℕ) → n ≡ refusal (table σ) (σ .state) (σ .step) → (n ≡ 0 → ⊥) → (r : Ran) → RefusedAs σ n r → StopsAs σ r
+  turn-stops n q z = stops-at (table σ) (σ .log) (σ .from) (σ .start) here rows-here (Refused n) (sym (played-here ∙ rw (← q, ne-eqb n 0 z))) (λ t. absurd t)
 
 module _ {σ : Scene} {w : State} {b l : List ℕ} {d : Tally} {v : Ruling} (G : Goes σ w b l d v) where
   after : Stands (table σ) (σ .log) (σ .from) w b l d (σ .newline + 1)
@@ -199,16 +262,57 @@ module _ {σ : Scene} {w : State} {b l : List ℕ} {d : Tally} {v : Ruling} (G :
     roomy = G .roomy;
   }
 
-  played-after : whole σ ≡ onVerdict (given σ) w d (behind σ) (played (table σ) w d (behind σ))
+  abbrev rows : Rows (σ .lent) (σ .place) (σ .buf) (σ .filled)
+  rows = rows-here (G .turn)
+
+  played-after : whole σ ≡ telling (rows .text) (onVerdict (given σ) w d (left σ) (behind σ) (λ n. played (table σ) w d n (behind σ)))
   played-after = played-here (G .turn) ∙ rw (G .accepted, G .state, G .tally)
 
   -- no cycle is kept
   pub turn-passed : OneOf (0 ∷ 2 ∷ []) (tagOf the-type v) → GoesOn σ w b l d
-  turn-passed h = record { here = after; rest = sym (played-after ∙ on-passed w d _ _ (given σ) (rw (G .ruling) at h)) }
+  turn-passed h = record { here = after; rows = rows; rest = sym (played-after ∙ ap (telling (rows .text)) (on-passed w d _ _ _ (given σ) (rw (G .ruling) at h))) }
 
   pub turn-open : v ≡ Open → GoesOn σ w b l d
   turn-open e = turn-passed (rw e (hit (0 ∷ 2 ∷ []) 0 tt))
 
-  -- a cycle is kept
-  pub turn-kept : (k : Cycle) → v ≡ Kept k → (r : Ran) → r ≡ ranOf w b l d (σ .newline + 1) (Closed k) → StopsAs σ r
-  turn-kept k i = stops-at after (Closed k) (sym (played-after ∙ on-kept w d _ _ (given σ) k (sym (G .ruling) ∙ i))) (λ t. omega (arith, here (G .turn) .onward, onward (G .turn)))
+  -- a cycle is kept, and its row asks for room
+  module _ (k : Cycle) (i : v ≡ Kept k) (more : ℕ) (buf : List ℕ) (p : Put (σ .buf) (σ .filled) (cycleText k) more buf) where
+    played-kept : whole σ ≡ telling (rows .text) (onKept k w d (left σ) (behind σ) (λ n. played (table σ) w d n (behind σ)))
+    played-kept = played-after ∙ ap (telling (rows .text)) (on-kept w d _ _ _ (given σ) k (sym (G .ruling) ∙ i))
+
+    size : length (σ .buf) ≡ length (σ .lent)
+    size = rows-kept rows
+
+    -- the buffer keeps its length
+    pub turn-kept : length buf ≡ length (σ .lent)
+    turn-kept = put-length p ∙ size
+
+    -- it has none
+    pub turn-full : more ≡ σ .filled → (r : Ran) → r ≡ ranOf w b l d (σ .newline + 1) (σ .filled) (Closed k)
+        → Runs (table σ) (σ .log) (σ .from) (σ .start) (σ .lent) (σ .place) r buf
+    turn-full e =
+        let short : length (σ .buf) < σ .filled + length (cycleText k) =
+        order (length (σ .buf)) (σ .filled + length (cycleText k)) (λ l. l) (λ l. absurd (omega (arith, put-fits l p .0, row-some k))) in
+        let lack : left σ < length (cycleText k) = omega (arith, size, rows .fits, rows .filled) in
+        stops-at (table σ) (σ .log) (σ .from) (σ .start) after (record { text = rows .text; fits = rows .fits; filled = rows .filled; bytes = put-short short p .1 ∙ rows .bytes })
+        (Closed k) (sym (played-kept ∙ rw (lt-leb _ _ lack))) (λ t. omega (arith, here (G .turn) .onward, onward (G .turn)))
+
+    -- it is written, and the run goes on behind it
+    pub turn-told : (more ≡ σ .filled → ⊥) → ComesTo σ w b l d (σ .newline + 1) buf more
+    turn-told n =
+        let fit : σ .filled + length (cycleText k) ≤ length (σ .buf) =
+        order (length (σ .buf)) (σ .filled + length (cycleText k)) (λ l. absurd (n (put-short l p .0))) (λ l. l) in
+        let u = put-fits fit p in
+        let t = length-append (rows .text) (cycleText k) in
+        let q : left σ - length (cycleText k) ≡ length (σ .lent) - more = omega (arith, u .0) in
+        let room : length (cycleText k) ≤ left σ = omega (arith, size) in
+        record {
+          here = after;
+          rows = record {
+            text = rows .text ++ cycleText k;
+            fits = omega (arith, rows .filled, size);
+            filled = omega (arith, rows .filled, u .0);
+            bytes = u .1 ∙ rows-more rows (cycleText k);
+          };
+          rest = sym (telling-more (rows .text) (cycleText k) _) ∙ sym (played-kept ∙ rw (le-leb _ _ room, q));
+        }

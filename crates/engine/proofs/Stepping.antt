@@ -14,16 +14,14 @@ use Rattle.rules.proofs.Steps.{answeredTask, answered, task-refusal, local-refu
 use Rattle.waits.specs.Beside.{busyOf, listedOf, clearForBy, emptyForBy}
 use Rattle.waits.proofs.Beside.{map-set, clear-for-by, empty-for-by}
 use Rattle.engine.specs.Tallies.{rulingOf, rulingBy, afterStep}
-use Rattle.engine.specs.Play.{ranOf}
 use Rattle.engine.specs.Turns.{isSm}
 use Rattle.engine.specs.declared.Tally.{Tally}
 use Rattle.engine.specs.declared.Ruling.{Ruling}
 use Rattle.engine.specs.declared.Ruling.the-variants.{Open}
-use Rattle.engine.specs.declared.Stop.the-variants.{Refused}
 use Rattle.engine.specs.declared.Ran.{Ran}
 use Rattle.engine.proofs.StepKinds.{act-is}
 use Rattle.engine.proofs.Tallying.{ruling-is, act-open, step-counts, step-roomy}
-use Rattle.engine.proofs.Runs.{Scene, table, GoesOn, StopsAs, Goes, given, here, sound-here, formed-here, less-left, turn-stops, turn-open}
+use Rattle.engine.proofs.Runs.{Scene, table, GoesOn, StopsAs, RefusedAs, Goes, given, here, sound-here, formed-here, less-left, turn-stops, turn-open}
 use Rattle.engine.proofs.Naming.{Names}
 
 -- a turn at a step that is neither a wait nor an `sm`
@@ -54,7 +52,7 @@ module _ {σ : Scene} {t : ℕ} {r : TaskTold} (L : TaskSteps σ t r) where
   task-number = ap (λ r. r .number) (L .told) ∙ sym (task-refusal (table σ) (σ .state) (σ .step) (L .kind) (L .others .names .named))
 
   -- it is refused
-  pub task-stops : (r .number ≡ 0 → ⊥) → (q : Ran) → q ≡ ranOf (σ .state) (σ .busy) (σ .listed) (σ .tally) (σ .at) (Refused (r .number)) → StopsAs σ q
+  pub task-stops : (r .number ≡ 0 → ⊥) → (q : Ran) → RefusedAs σ (r .number) q → StopsAs σ q
   task-stops = turn-stops (L .others .names .turn) (r .number) task-number
 
   -- it is accepted, with the verdict v: its record is stored
@@ -98,7 +96,7 @@ module _ {σ : Scene} {t a : ℕ} {r : Told} (L : Steps σ t a r) where
   act-number = ap (λ r. r .number) (L .told) ∙ sym (local-refusal (table σ) (σ .state) (σ .step) (L .kind) (L .others .names .named))
 
   -- it is refused
-  pub act-stops : (r .number ≡ 0 → ⊥) → (q : Ran) → q ≡ ranOf (σ .state) (σ .busy) (σ .listed) (σ .tally) (σ .at) (Refused (r .number)) → StopsAs σ q
+  pub act-stops : (r .number ≡ 0 → ⊥) → (q : Ran) → RefusedAs σ (r .number) q → StopsAs σ q
   act-stops = turn-stops (L .others .names .turn) (r .number) act-number
 
   -- it is accepted: its records are stored, with what is kept of the activity's beside the state

@@ -1,14 +1,16 @@
--- The promise of a run leaves no choice: one result for a log, a place in it and what is carried there.
-use Prim.Native.Nat.{ℕ, _≤_}
+-- The promise of a run leaves no choice: one result for a log, a place in it, what is carried there and a buffer, and one content of the
+-- buffer.
+use Prim.Native.Nat.{ℕ, _+_, _≤_}
 use mathlib.Core.List.{List}
 use mathlib.Core.Path.{_≡_, sym, ap, _∙_}
 use native.Mathlib.Omega.{arith}
 use lib.ListN.{length, drop, length-drop}
+use lib.Seq.{sets}
 use Rattle.text.specs.Parts.{joinOn}
 use Rattle.text.proofs.Parts.{join-split}
 use Rattle.model.specs.Tables.{Table}
 use Rattle.waits.specs.Beside.{busyIn, listedIn}
-use Rattle.engine.specs.Play.{Played, pieces, stopped, Ready, Runs}
+use Rattle.engine.specs.Play.{Played, pieces, told, Ready, Runs}
 use Rattle.engine.specs.declared.Stop.{Stop}
 use Rattle.engine.specs.declared.Going.{Going}
 use Rattle.engine.specs.declared.Ran.{Ran}
@@ -26,18 +28,21 @@ same-going r q s c =
     let l = r .listed ∙ ap listedIn s ∙ sym (q .listed) in
     λ i. record { state = s i; busy = b i; listed = l i; tally = c i }
 
--- so what a log comes to names what is carried on, the place reached and the reason
-module _ {K : Table} (log : List ℕ) {g h : Going} {m n : ℕ} {v w : Stop} where
-  pub same-stand : m ≤ length log → n ≤ length log → Ready K g → Ready K h
-      → stopped (g .state) (g .tally) v (pieces log m) ≡ stopped (h .state) (h .tally) w (pieces log n) → (g ≡ h) × (m ≡ n) × (v ≡ w)
+-- so what a log comes to names the rows told, what is carried on, the place reached and the reason
+module _ {K : Table} (log : List ℕ) {text row : List ℕ} {g h : Going} {m n : ℕ} {v w : Stop} where
+  same-stand : m ≤ length log → n ≤ length log → Ready K g → Ready K h
+      → told text (g .state) (g .tally) v (pieces log m) ≡ told row (h .state) (h .tally) w (pieces log n) → (text ≡ row) × (g ≡ h) × (m ≡ n) × (v ≡ w)
   same-stand a b r q e = (
+    ap (λ (p : Played). p .text) e,
     same-going r q (ap (λ (p : Played). p .state) e) (ap (λ (p : Played). p .tally) e),
     same-place log a b (ap (λ (p : Played). p .rest) e),
     ap (λ (p : Played). p .stop) e,
   )
 
--- two results of a run are equal
-pub runs-unique : {K : Table} {log : List ℕ} {from : ℕ} {g : Going} {r₁ r₂ : Ran} → Runs K log from g r₁ → Runs K log from g r₂ → r₁ ≡ r₂
-runs-unique {log = log} h k =
+-- two results of a run are equal, and so are two contents of its buffer
+pub runs-unique : {K : Table} {log : List ℕ} {from : ℕ} {g : Going} {buf : List ℕ} {place : ℕ} {r₁ r₂ : Ran} {after₁ after₂ : List ℕ}
+    → Runs K log from g buf place r₁ after₁ → Runs K log from g buf place r₂ after₂ → (r₁ ≡ r₂) × (after₁ ≡ after₂)
+runs-unique {log = log} {buf = buf} {place = place} h k =
     let s = same-stand log (h .within) (k .within) (h .ready) (k .ready) (h .played ∙ sym (k .played)) in
-    λ i. record { going = s .0 i; at = s .1 i; stop = s .2 i }
+    let f = h .filled ∙ ap (λ l. place + length l) (s .0) ∙ sym (k .filled) in
+    (λ i. record { going = s .1 i; at = s .2 i; filled = f i; stop = s .3 i }, h .bytes ∙ ap (sets buf place) (s .0) ∙ sym (k .bytes))

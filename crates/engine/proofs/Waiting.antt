@@ -22,15 +22,13 @@ use Rattle.waits.proofs.Facts.{clock-fits, timer-fits}
 use Rattle.waits.proofs.Holders.{Asks, Asked, asked-none}
 use Rattle.waits.proofs.Older.{older-busy, older-listed, not-older, older-next}
 use Rattle.engine.specs.Tallies.{afterWait}
-use Rattle.engine.specs.Play.{ranOf}
 use Rattle.engine.specs.Turns.{ticksOf}
 use Rattle.engine.specs.declared.Tally.{Tally}
 use Rattle.engine.specs.declared.Ruling.the-variants.{Open}
-use Rattle.engine.specs.declared.Stop.the-variants.{Refused}
 use Rattle.engine.specs.declared.Ran.{Ran}
 use Rattle.engine.proofs.StepKinds.{wait-is}
 use Rattle.engine.proofs.Tallying.{wait-counts, wait-roomy}
-use Rattle.engine.proofs.Runs.{Scene, table, Turn, GoesOn, StopsAs, Goes, here, sound-here, formed-here, less-left, turn-stops, turn-open}
+use Rattle.engine.proofs.Runs.{Scene, table, Turn, GoesOn, StopsAs, RefusedAs, Goes, here, sound-here, formed-here, less-left, turn-stops, turn-open}
 
 -- the first m of nt tasks and their holders are older by a wait of d ticks
 pub record Ages (K : Table) (s : State) (d nt : ℕ) (u : State) (m : ℕ) : Type 0 where
@@ -105,7 +103,7 @@ module _ {σ : Scene} {d : ℕ} (W : Waits σ d) where
   is-refusal q = rw (W .step) q
 
   -- it is refused
-  pub wait-stops : (n : ℕ) → (n ≡ 0 → ⊥) → n ≡ waitRefusal (table σ) (σ .state) d → (r : Ran) → r ≡ ranOf (σ .state) (σ .busy) (σ .listed) (σ .tally) (σ .at) (Refused n) → StopsAs σ r
+  pub wait-stops : (n : ℕ) → (n ≡ 0 → ⊥) → n ≡ waitRefusal (table σ) (σ .state) d → (r : Ran) → RefusedAs σ n r → StopsAs σ r
   wait-stops n z q = turn-stops (W .turn) n (is-refusal q) z
 
   -- it is accepted

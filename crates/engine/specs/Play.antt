@@ -1,10 +1,12 @@
--- A log played by the rules, line after line, up to its end, the first refusal, or the next kept cycle.
-use Prim.Native.Nat.{ℕ, _-_, _≤_, _<_}
+-- A log played by the rules, line after line, up to its end, the first refusal, or a kept cycle whose row has no room; the rows of the
+-- cycles kept before are told on the way.
+use Prim.Native.Nat.{ℕ, _+_, _-_, _≤_, _<_}
 use mathlib.Core.Bool.{Bool, true, false}
-use mathlib.Core.List.{List, [], _∷_}
+use mathlib.Core.List.{List, [], _∷_, _++_}
 use mathlib.Core.Path.{_≡_}
 use lib.ListN.{length, drop}
-use lib.Dec.{T}
+use lib.Seq.{sets}
+use lib.Dec.{T, leb}
 use Rattle.text.specs.Parts.{pick, splitOn}
 use Rattle.model.specs.Tests.{accepted}
 use Rattle.model.specs.Tables.{Table}
@@ -15,9 +17,11 @@ use Rattle.model.specs.declared.State.{State}
 use Rattle.model.specs.declared.Step.{Step}
 use Rattle.model.specs.declared.Line.{Line}
 use Rattle.model.specs.declared.Line.the-variants as line
+use Rattle.report.specs.Rows.{cycleOf, cycleText}
+use Rattle.report.specs.declared.Cycle.{Cycle}
 use Rattle.log.specs.Lines.{readStep}
 use Rattle.waits.specs.Beside.{busyIn, listedIn}
-use Rattle.engine.specs.Tallies.{cycleOf, tallied, Roomy}
+use Rattle.engine.specs.Tallies.{tallied, Roomy}
 use Rattle.engine.specs.declared.Tally.{Tally}
 use Rattle.engine.specs.declared.Stop.{Stop}
 use Rattle.engine.specs.declared.Stop.the-variants.{End, Refused, Closed}
@@ -28,45 +32,64 @@ use Rattle.engine.specs.declared.Ran.{Ran}
 abbrev pub pieces : List ℕ → ℕ → List (List ℕ)
 pieces log at = splitOn 10 (drop at log)
 
--- what a log comes to: the state and the tally reached, why it stopped, and the lines left
+-- what a log comes to: the rows told, the state and the tally reached, why it stopped, and the lines left
 pub record Played : Type 0 where
+  pub text : List ℕ
   pub state : State
   pub tally : Tally
   pub stop : Stop
   pub rest : List (List ℕ)
 
+-- these rows are told, and it stopped
+abbrev pub told : List ℕ → State → Tally → Stop → List (List ℕ) → Played
+told text s c w rest = record { text = text; state = s; tally = c; stop = w; rest = rest }
+
 abbrev pub stopped : State → Tally → Stop → List (List ℕ) → Played
-stopped s c w rest = record { state = s; tally = c; stop = w; rest = rest }
+stopped s c w rest = told [] s c w rest
+
+-- these rows are told, and then the rest
+abbrev pub telling : List ℕ → Played → Played
+telling text p = told (text ++ p .text) (p .state) (p .tally) (p .stop) (p .rest)
 
 -- behind the last newline: "line without newline" is 11, nothing is the end
 abbrev pub lastLine : State → Tally → List ℕ → Played
 lastLine s c [] = stopped s c End ([] ∷ [])
 lastLine s c (b ∷ p) = stopped s c (Refused 11) ((b ∷ p) ∷ [])
 
--- an accepted step: it goes on, unless a cycle is kept
-abbrev pub onVerdict : Verdict → State → Tally → List (List ℕ) → Played → Played
-onVerdict none s c rest go = go
-onVerdict (kept r) s c rest go = stopped s c (Closed (cycleOf r)) rest
-onVerdict dropped s c rest go = go
+-- a kept cycle: where its row has room it is told, and the log goes on with the room left; else it stops there
+abbrev pub onKept : Cycle → State → Tally → ℕ → List (List ℕ) → (ℕ → Played) → Played
+onKept k s c room rest go =
+    pick (leb (length (cycleText k)) room)
+    (telling (cycleText k) (go (room - length (cycleText k))))
+    (stopped s c (Closed k) rest)
 
-abbrev pub onStep : Table → State → Tally → Step → List (List ℕ) → List (List ℕ) → (State → Tally → Played) → Played
-onStep K s c x here rest go =
+-- an accepted step: only a kept cycle is told
+abbrev pub onVerdict : Verdict → State → Tally → ℕ → List (List ℕ) → (ℕ → Played) → Played
+onVerdict none s c room rest go = go room
+onVerdict (kept r) s c room rest go = onKept (cycleOf r) s c room rest go
+onVerdict dropped s c room rest go = go room
+
+-- a step, accepted or refused
+abbrev pub onStep : Table → State → Tally → ℕ → Step → List (List ℕ) → List (List ℕ) → (State → Tally → ℕ → Played) → Played
+onStep K s c room x here rest go =
     pick (accepted (refusal K s x))
-    (onVerdict (verdict K s x) (next K s x) (tallied K s x c) rest (go (next K s x) (tallied K s x c)))
+    (onVerdict (verdict K s x) (next K s x) (tallied K s x c) room rest (go (next K s x) (tallied K s x c)))
     (stopped s c (Refused (refusal K s x)) here)
 
-abbrev pub onLine : Table → State → Tally → Line → List (List ℕ) → List (List ℕ) → (State → Tally → Played) → Played
-onLine K s c line.Bad here rest go = stopped s c (Refused 11) here
-onLine K s c (line.Is x) here rest go = onStep K s c x here rest go
+-- a line with its newline
+abbrev pub onLine : Table → State → Tally → ℕ → Line → List (List ℕ) → List (List ℕ) → (State → Tally → ℕ → Played) → Played
+onLine K s c room line.Bad here rest go = stopped s c (Refused 11) here
+onLine K s c room (line.Is x) here rest go = onStep K s c room x here rest go
 
-unfoldable pub played : Table → State → Tally → List (List ℕ) → Played
-played K s c [] = stopped s c End []
-played K s c (p ∷ []) = lastLine s c p
-played K s c (p ∷ q ∷ ps) = onLine K s c (readStep p) (p ∷ q ∷ ps) (q ∷ ps) (λ w d. played K w d (q ∷ ps))
+-- the lines of a log, with so much room for rows
+unfoldable pub played : Table → State → Tally → ℕ → List (List ℕ) → Played
+played K s c room [] = stopped s c End []
+played K s c room (p ∷ []) = lastLine s c p
+played K s c room (p ∷ q ∷ ps) = onLine K s c room (readStep p) (p ∷ q ∷ ps) (q ∷ ps) (λ w d n. played K w d n (q ∷ ps))
 
 -- a run as the code has it
-abbrev pub ranOf : State → List ℕ → List ℕ → Tally → ℕ → Stop → Ran
-ranOf s busy listed c at w = record { going = record { state = s; busy = busy; listed = listed; tally = c }; at = at; stop = w }
+abbrev pub ranOf : State → List ℕ → List ℕ → Tally → ℕ → ℕ → Stop → Ran
+ranOf s busy listed c at filled w = record { going = record { state = s; busy = busy; listed = listed; tally = c }; at = at; filled = filled; stop = w }
 
 -- what is carried from run to run: a sound state, and beside it what follows from it
 pub record Ready (K : Table) (g : Going) : Type 0 where
@@ -79,10 +102,15 @@ isClosed End = false
 isClosed (Refused n) = false
 isClosed (Closed c) = true
 
--- a run over a log from a place
-pub record Runs (K : Table) (log : List ℕ) (from : ℕ) (g : Going) (r : Ran) : Type 0 where
+-- a run over a log from a place, its rows written into a buffer from a place on: the rows, the state and the tally reached, the reason and
+-- the lines left are those that the log comes to with the room that the buffer has
+pub record Runs (K : Table) (log : List ℕ) (from : ℕ) (g : Going) (buf : List ℕ) (place : ℕ) (r : Ran) (after : List ℕ) : Type 0 where
+  pub text : List ℕ
+  pub played : told text (r .going .state) (r .going .tally) (r .stop) (pieces log (r .at)) ≡ played K (g .state) (g .tally) (length buf - place) (pieces log from)
+  pub fits : place + length text ≤ length buf
+  pub filled : r .filled ≡ place + length text
+  pub bytes : after ≡ sets buf place text
   pub within : r .at ≤ length log
-  pub played : stopped (r .going .state) (r .going .tally) (r .stop) (pieces log (r .at)) ≡ played K (g .state) (g .tally) (pieces log from)
   pub onward : T (isClosed (r .stop)) → from < r .at
   pub ready : Ready K (r .going)
   pub roomy : Roomy (r .going .tally) (length log - r .at)

@@ -5,13 +5,14 @@ use Rattle.text.specs.Parts.{pick}
 use Rattle.model.specs.Tests.{_or_}
 use Rattle.model.specs.Tables.{Table}
 use Rattle.model.specs.Logs.{isWait}
-use Rattle.model.specs.Cycles.{KeptRow, Verdict, none, kept, dropped, verdict, opens, drops}
+use Rattle.model.specs.Cycles.{Verdict, none, kept, dropped, verdict, opens, drops}
 use Rattle.model.specs.declared.State.{State}
 use Rattle.model.specs.declared.Task.{Task}
 use Rattle.model.specs.declared.Step.{Step}
 use Rattle.model.specs.declared.Step.the-variants.{Wait, St, Sm, Lm, Ia, Ea, Cx, Fa, Fm}
+use Rattle.report.specs.Rows.{cycleOf}
+use Rattle.report.specs.declared.Cycle.{Cycle}
 use Rattle.engine.specs.declared.Tally.{Tally}
-use Rattle.engine.specs.declared.Cycle.{Cycle}
 use Rattle.engine.specs.declared.Ruling.{Ruling}
 use Rattle.engine.specs.declared.Ruling.the-variants.{Open, Kept, Dropped}
 
@@ -19,10 +20,7 @@ use Rattle.engine.specs.declared.Ruling.the-variants.{Open, Kept, Droppe
 abbrev pub noTally : Tally
 noTally = record { steps = 0; opened = 0; kept = 0; dropped = 0; since = 0; most = 0 }
 
--- a kept cycle as the code has it, and a verdict
-abbrev pub cycleOf : KeptRow → Cycle
-cycleOf r = record { task = r .task; cycle = r .cycle; opened = r .opened; closed = r .closed; missed = r .missed; longest = r .longest }
-
+-- a verdict as the code has it
 abbrev pub rulingOf : Verdict → Ruling
 rulingOf none = Open
 rulingOf (kept r) = Kept (cycleOf r)

@@ -21,6 +21,7 @@ use model::Place;
 use model::State;
 use model::Step;
 use model::Task;
+use report::Cycle;
 
 // What is counted beside a run: accepted steps, cycles opened, kept and dropped, the steps since the last wait, and the most of the
 // stretches that a wait has ended.
@@ -33,16 +34,6 @@ pub struct Tally {
     pub most: u64,
 }
 
-// A cycle that was closed and kept.
-pub struct Cycle {
-    pub task: usize,
-    pub cycle: u64,
-    pub opened: u64,
-    pub closed: u64,
-    pub missed: u64,
-    pub longest: u64,
-}
-
 // The verdict that a step gives: none, or on the cycle that it closes.
 pub enum Ruling {
     Open,
@@ -50,7 +41,7 @@ pub enum Ruling {
     Dropped,
 }
 
-// Why a run stopped: the log's end, a refused line, or a cycle that was kept.
+// Why a run stopped: the log's end, a refused line, or a kept cycle whose row has no room.
 pub enum Stop {
     End,
     Refused(u64),
@@ -65,10 +56,12 @@ pub struct Going {
     pub tally: Tally,
 }
 
-// A run: what it came to, the place in the log behind the last accepted line, and why it stopped.
+// A run: what it came to, the place in the log behind the last accepted line, the place behind the rows written, and why it stopped. A
+// cycle that it stopped at is not told yet: its row has no room.
 pub struct Ran {
     pub going: Going,
     pub at: usize,
+    pub filled: usize,
     pub stop: Stop,
 }
 
@@ -298,9 +291,10 @@ fn left_at(
     listed: [usize; model::MOST_ACTS],
     tally: Tally,
     at: usize,
+    filled: usize,
     stop: Stop,
 ) -> Ran
-    ensures { λ r. ⌜ r ≡ ranOf state busy listed tally at stop ⌝ }
+    ensures { λ r. ⌜ r ≡ ranOf state busy listed tally at filled stop ⌝ }
 {
     Ran {
         going: Going {
@@ -310,14 +304,24 @@ fn left_at(
             tally: tally,
         },
         at: at,
+        filled: filled,
         stop: stop,
     }
 }
 
-// Plays a log from a place on: line after line, up to its end, the first refusal, or the next cycle that is kept.
-pub fn run(rows: &[u32], index: &[u32], log: &[u8], from: usize, g: Going) -> Ran
-    requires { ⌜ Prepared (now rows) (now index) × Ready (tableIn (now rows) (now index)) g × (from ≤ length (now log)) × Roomy (g .tally) (length (now log) - from) ⌝ }
-    ensures { λ r. ⌜ Runs (tableIn (now (rows .entry)) (now (index .entry))) (now (log .entry)) from g r ⌝ }
+// Plays a log from a place on, line after line, up to its end or the first refusal, and writes the row of each cycle that is kept as it
+// closes, as long as there is room.
+pub fn run(
+    rows: &[u32],
+    index: &[u32],
+    log: &[u8],
+    from: usize,
+    g: Going,
+    buf: &mut [u8],
+    place: usize,
+) -> Ran
+    requires { ⌜ Prepared (now rows) (now index) × Ready (tableIn (now rows) (now index)) g × (from ≤ length (now log)) × Roomy (g .tally) (length (now log) - from) × (place ≤ length (now buf)) ⌝ }
+    ensures { λ r. ⌜ Runs (tableIn (now (rows .entry)) (now (index .entry))) (now (log .entry)) from g (now (buf .entry)) place r (now (buf .exit)) ⌝ }
 {
     let nt = prepared::tasks(rows, index);
     let mut s = g.state;
@@ -325,15 +329,16 @@ pub fn run(rows: &[u32], index: &[u32], log: &[u8], from: usize, g: Going) -> Ra
     let mut listed = g.listed;
     let mut c = g.tally;
     let mut at = from;
+    let mut filled = place;
     while at < log.len() {
         let e = text::next_byte(log, at, text::NEWLINE);
         let Line::Is(st) = line_at(log, at, e) else {
-            return left_at(s, busy, listed, c, at, Stop::Refused(11));
+            return left_at(s, busy, listed, c, at, filled, Stop::Refused(11));
         };
         if is_wait(st) {
             let d = ticks_of(st);
             if !waits::in_range(d) {
-                return left_at(s, busy, listed, c, at, Stop::Refused(12));
+                return left_at(s, busy, listed, c, at, filled, Stop::Refused(12));
             }
             let mut room = true;
             let mut k = 0;
@@ -346,13 +351,13 @@ pub fn run(rows: &[u32], index: &[u32], log: &[u8], from: usize, g: Going) -> Ra
                 match h {
                     Holder::Manager => {
                         if rules::either(x.managing, x.signal) {
-                            return left_at(s, busy, listed, c, at, Stop::Refused(16));
+                            return left_at(s, busy, listed, c, at, filled, Stop::Refused(16));
                         }
                     }
                     Holder::Activity(a) => {
                         let y = s.acts[a];
                         if waits::act_hinders(rows, index, &busy, y) {
-                            return left_at(s, busy, listed, c, at, Stop::Refused(16));
+                            return left_at(s, busy, listed, c, at, filled, Stop::Refused(16));
                         }
                         room = rules::both(room, waits::act_room(rows, index, d, y));
                     }
@@ -360,7 +365,7 @@ pub fn run(rows: &[u32], index: &[u32], log: &[u8], from: usize, g: Going) -> Ra
             }
             let n = waits::wait_number(room, s.date, d);
             if n != 0 {
-                return left_at(s, busy, listed, c, at, Stop::Refused(n));
+                return left_at(s, busy, listed, c, at, filled, Stop::Refused(n));
             }
             let mut m = 0;
             while m < nt {
@@ -384,14 +389,14 @@ pub fn run(rows: &[u32], index: &[u32], log: &[u8], from: usize, g: Going) -> Ra
             continue;
         }
         if !rules::rows_exist(rows, index, st) {
-            return left_at(s, busy, listed, c, at, Stop::Refused(12));
+            return left_at(s, busy, listed, c, at, filled, Stop::Refused(12));
         }
         let ti = rules::task_in(rows, index, st);
         let x = s.tasks[ti];
         if is_sm(st) {
             let n = sm_refusal(rows, index, st, x);
             if n != 0 {
-                return left_at(s, busy, listed, c, at, Stop::Refused(n));
+                return left_at(s, busy, listed, c, at, filled, Stop::Refused(n));
             }
             let end = prepared::acts_end(rows, index, ti);
             let mut a = prepared::acts_begin(rows, index, ti);
@@ -413,7 +418,7 @@ pub fn run(rows: &[u32], index: &[u32], log: &[u8], from: usize, g: Going) -> Ra
             let told = rules::task_step(rows, index, st, empty, x);
             let n = told.number;
             if n != 0 {
-                return left_at(s, busy, listed, c, at, Stop::Refused(n));
+                return left_at(s, busy, listed, c, at, filled, Stop::Refused(n));
             }
             let u = told.task;
             s.tasks[ti] = u;
@@ -423,7 +428,12 @@ pub fn run(rows: &[u32], index: &[u32], log: &[u8], from: usize, g: Going) -> Ra
             let Ruling::Kept(k) = w else {
                 continue;
             };
-            return left_at(s, busy, listed, c, at, Stop::Closed(k));
+            let more = report::put_cycle(buf, filled, k);
+            if more == filled {
+                return left_at(s, busy, listed, c, at, filled, Stop::Closed(k));
+            }
+            filled = more;
+            continue;
         }
         let ai = rules::act_in(st);
         let y = s.acts[ai];
@@ -432,7 +442,7 @@ pub fn run(rows: &[u32], index: &[u32], log: &[u8], from: usize, g: Going) -> Ra
         let told = rules::local_step(rows, index, st, clear, x, y);
         let n = told.number;
         if n != 0 {
-            return left_at(s, busy, listed, c, at, Stop::Refused(n));
+            return left_at(s, busy, listed, c, at, filled, Stop::Refused(n));
         }
         let u = told.task;
         let v = told.act;
@@ -443,7 +453,7 @@ pub fn run(rows: &[u32], index: &[u32], log: &[u8], from: usize, g: Going) -> Ra
         c = after_step(c, Ruling::Open);
         at = e + 1;
     }
-    left_at(s, busy, listed, c, at, Stop::End)
+    left_at(s, busy, listed, c, at, filled, Stop::End)
 }
 
 // What a run carries that starts at a state, with nothing counted yet.

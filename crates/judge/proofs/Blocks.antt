@@ -1,26 +1,23 @@
 -- The log judged block after block: what the turns over a chunk carry.
-use Prim.Native.Nat.{ℕ, _+_, _-_, _≤_, _<_}
-use mathlib.Core.Path.{_≡_, ap, _∙_}
+use Prim.Native.Nat.{ℕ, _+_, _-_, _≤_}
+use mathlib.Core.Path.{_≡_, _∙_}
 use mathlib.Core.List.{List}
 use mathlib.Core.Bool.{Bool, false, not}
 use native.Mathlib.Omega.{arith}
 use lib.ListN.{length, take, length-take}
-use lib.Seq.{length-sets}
 use borrow.Author.Tests.{not-false}
 use Rattle.text.specs.Put.{Put}
 use Rattle.text.proofs.Picks.{order}
 use Rattle.text.proofs.Puts.{put-fits, put-short}
 use Rattle.model.specs.Tables.{Table}
+use Rattle.report.proofs.Lines.{put-length}
 use Rattle.engine.specs.Tallies.{Roomy}
-use Rattle.engine.specs.Play.{Ready}
+use Rattle.engine.specs.Play.{Ready, Runs}
 use Rattle.engine.specs.declared.Tally.{Tally}
-use Rattle.engine.specs.declared.Cycle.{Cycle}
-use Rattle.engine.specs.declared.Stop.the-variants.{Closed}
 use Rattle.engine.specs.declared.Going.{Going}
-use Rattle.judging.specs.Telling.{Tells}
-use Rattle.judging.specs.declared.Told.{Told}
+use Rattle.engine.specs.declared.Ran.{Ran}
 use Rattle.judging.proofs.Counts.{Grows}
-use Rattle.judging.proofs.Reporting.{put-length, is-closed}
+use Rattle.judging.proofs.Reporting.{run-length}
 
 -- what lies within the first bytes lies within all
 pub first-within : (n k : ℕ) (s : List ℕ) → n ≤ length (take k s) → n ≤ length s
@@ -58,26 +55,17 @@ pub record Judges (K : Table) (chunk out : List ℕ) (g : Going) (at filled : �
 pub judges-start : {K : Table} {chunk out : List ℕ} {g : Going} → Ready K g → Roomy (g .tally) (length chunk) → length out ≡ 65536 → Judges K chunk out g 0 0
 judges-start h r e = record { ready = h; within = omega arith; roomy = roomy-less r (omega arith); size = e; room = omega arith }
 
-module _ {K : Table} {log : List ℕ} {from : ℕ} {g : Going} {buf : List ℕ} {place : ℕ} {r : Told} {after : List ℕ} (t : Tells K log from g buf place r after) where
-  -- the buffer keeps its length
-  pub tells-length : length after ≡ length buf
-  tells-length = ap length (t .bytes) ∙ length-sets buf place (t .text)
+module _ {K : Table} {log : List ℕ} {from : ℕ} {g : Going} {buf : List ℕ} {place : ℕ} {r : Ran} {after : List ℕ} (t : Runs K log from g buf place r after) where
+  -- what a run leaves for the next chunk
+  pub run-done : Ready K (r .going) × Roomy (r .going .tally) 0
+  run-done = (t .ready, roomy-less (t .roomy) (omega arith))
 
-  -- what it leaves for the next chunk
-  pub tells-done : Ready K (r .going) × Roomy (r .going .tally) 0
-  tells-done = (t .ready, roomy-less (t .roomy) (omega arith))
-
-  module _ {k : Cycle} (c : r .stop ≡ Closed k) where
-    -- less of the log is left behind a kept cycle
-    pub tells-less : length log - r .at < length log - from
-    tells-less = omega (arith, t .within, t .onward (is-closed c))
-
-    -- its row is the first of the next turn
-    pub judges-more : {text out : List ℕ} {n : ℕ} → length buf ≡ 65536 → Put after 0 text n out → Judges K log out (r .going) (r .at) n
-    judges-more e p = record {
-      ready = t .ready;
-      within = t .within;
-      roomy = t .roomy;
-      size = put-length p ∙ tells-length ∙ e;
-      room = put-within p (omega arith);
-    }
+  -- the row of a kept cycle that had no room is the first of the next turn
+  pub judges-more : {text out : List ℕ} {n : ℕ} → length buf ≡ 65536 → Put after 0 text n out → Judges K log out (r .going) (r .at) n
+  judges-more e p = record {
+    ready = t .ready;
+    within = t .within;
+    roomy = t .roomy;
+    size = put-length p ∙ run-length t ∙ e;
+    room = put-within p (omega arith);
+  }

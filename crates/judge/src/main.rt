@@ -75,7 +75,7 @@ fn judge_chunk(rows: &[u32], index: &[u32], chunk: &[u8], start: Going) -> Judge
     let mut at = 0;
     let mut filled = 0;
     loop {
-        let told = judging::put_kept(rows, index, chunk, at, g, &mut out, filled);
+        let told = engine::run(rows, index, chunk, at, g, &mut out, filled);
         g = told.going;
         at = told.at;
         let n = told.filled;
@@ -95,7 +95,7 @@ fn judge_chunk(rows: &[u32], index: &[u32], chunk: &[u8], start: Going) -> Judge
                 written: true,
             };
         };
-        filled = judging::put_cycle(&mut out, 0, k);
+        filled = report::put_cycle(&mut out, 0, k);
     }
 }
 
@@ -196,7 +196,7 @@ fn main() {
     let t = read.table;
     match answer {
         Answer::Fine => {
-            let h = judging::put_head(&mut out);
+            let h = report::put_head(&mut out);
             if write(&out, h) {
                 judge_log(t, &mut block, cut, n);
             }

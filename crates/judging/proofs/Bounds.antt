@@ -42,11 +42,10 @@ use Rattle.log.specs.Lines.{stepWords, aNumber, aSet, readStep}
 use Rattle.log.proofs.Words.{nine, nine-words}
 use Rattle.log.proofs.Shapes.{either, Shapes, shaped}
 use Rattle.engine.specs.Tallies.{keepsOne}
-use Rattle.judging.specs.Rows.{numbersText, lineText, sumWord, keptText, rowsText, sumNumbers, sumText}
-use Rattle.judging.specs.Report.{linesIn, logText}
-use Rattle.judging.specs.Telling.{surely}
-use Rattle.judging.proofs.Accounts.{kept-more, rowOf, rows-more}
-use Rattle.judging.proofs.Lines.{line-length, numbers-most, head-length}
+use Rattle.report.specs.Rows.{numbersText, lineText, sumWord, keptText, rowsText, sumNumbers, sumText}
+use Rattle.judging.specs.Report.{linesIn, logText, surely}
+use Rattle.judging.proofs.Telling.{kept-more, rowOf, rows-more}
+use Rattle.report.proofs.Lines.{line-length, numbers-most, head-length}
 
 -- a row's numbers are small enough for 75 bytes
 record Small (r : KeptRow) : Type 0 where

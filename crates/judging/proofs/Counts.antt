@@ -15,10 +15,10 @@ use Rattle.model.specs.Cycles.{managing, lineOf}
 use Rattle.model.specs.declared.State.{State}
 use Rattle.prepared.specs.Prepared.{tableIn, Prepared}
 use Rattle.prepared.proofs.Stored.{most-tasks}
+use Rattle.report.specs.Rows.{sumNumbers}
 use Rattle.engine.specs.Tallies.{mostCount, Roomy}
 use Rattle.engine.specs.declared.Tally.{Tally}
-use Rattle.judging.specs.Rows.{sumNumbers}
-use Rattle.judging.specs.Telling.{sumOf, surely}
+use Rattle.judging.specs.Report.{sumOf, surely}
 
 -- the line of a refusal
 pub line-some : (n steps : ℕ) → (n ≡ 0 → ⊥) → steps + 1 ≡ lineOf n steps

@@ -1,10 +1,9 @@
+pub mod Telling
 pub mod Accounts
-pub mod Tales
 pub mod Bounds
 pub mod Mission
 pub mod Chunks
 pub mod Counts
-pub mod Lines
 pub mod Cuts
 pub mod Reporting
 pub mod Unique

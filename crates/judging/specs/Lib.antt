@@ -1,4 +1,2 @@
-pub mod Rows
 pub mod Report
-pub mod Telling
 pub mod Cut

@@ -1,10 +1,14 @@
 -- The report on a table's text and a log, as bytes.
-use Prim.Native.Nat.{ℕ}
+use Prim.Native.Nat.{ℕ, _-_, _/_, max}
+use mathlib.Core.Bool.{Bool}
 use mathlib.Core.List.{List, [], _∷_, _++_}
+use lib.Dec.{leb}
 use Rattle.text.specs.Parts.{splitOn}
-use Rattle.model.specs.Cycles.{Report, report, refusedReport}
+use Rattle.model.specs.Tests.{_and_}
+use Rattle.model.specs.Cycles.{SumRow, Report, report, refusedReport, managing, lineOf}
 use Rattle.model.specs.States.{fresh}
 use Rattle.model.specs.Tables.{Table}
+use Rattle.model.specs.declared.State.{State}
 use Rattle.model.specs.declared.Line.{Line}
 use Rattle.model.specs.declared.Line.the-variants.{Bad}
 use Rattle.log.specs.Lines.{readStep}
@@ -14,7 +18,10 @@ use Rattle.table.specs.declared.Read.{Read}
 use Rattle.table.specs.declared.Table as rows
 use Rattle.table.specs.declared.Answer.{Answer}
 use Rattle.table.specs.declared.Answer.the-variants.{Fine, Refused}
-use Rattle.judging.specs.Rows.{headText, rowsText, sumText}
+use Rattle.report.specs.Rows.{headText, rowsText, sumText}
+use Rattle.engine.specs.declared.Tally.{Tally}
+use Rattle.engine.specs.declared.Stop.{Stop}
+use Rattle.engine.specs.declared.Stop.the-variants as stop
 
 -- what stands behind the last newline: nothing is no line, anything else is a line without newline
 abbrev pub endLine : List ℕ → List Line
@@ -45,3 +52,28 @@ readText r log = answerText (r .table) log (r .answer)
 -- the report on a table's text and a log
 unfoldable pub reportOn : List ℕ → List ℕ → List ℕ
 reportOn table log = readText (readTable table) log
+
+-- the `sum` row where judging ends with a refusal, or 0 for none
+abbrev pub sumOf : Table → State → Tally → ℕ → SumRow
+sumOf K s c n = record {
+  steps = c .steps;
+  date = s .date;
+  opened = c .opened;
+  kept = c .kept;
+  dropped = c .dropped;
+  managing = managing K s;
+  most = max (c .most) (c .since);
+  refusal = n;
+  line = lineOf n (c .steps);
+}
+
+-- the refusal that a run stopped at, 0 for none
+abbrev pub refusalOf : Stop → ℕ
+refusalOf stop.End = 0
+refusalOf (stop.Refused n) = n
+refusalOf (stop.Closed k) = 0
+
+-- a buffer surely holds the report on a log of so many bytes: a closed cycle has an `sm` and an `fm` line of its own, 44 bytes at least, and
+-- at most one row, of 75 bytes at most; the header and the `sum` row take 202 bytes at most
+abbrev pub surely : ℕ → ℕ → Bool
+surely room bytes = leb 202 room and leb (bytes / 44) ((room - 202) / 75)

@@ -1,7 +1,7 @@
 // The judge: a log judged against a table, and the report written. What the program streams and what the recorder calls is one work.
 ghost use mathlib.Core.Path.{_≡_};
 ghost use mathlib.Core.Bool.{true};
-ghost use Prim.Native.Nat.{_+_, _-_, _<_, _≤_};
+ghost use Prim.Native.Nat.{_≤_};
 ghost use lib.ListN.{length};
 ghost use lib.Dec.{leb};
 ghost use Rattle.text.specs.Parts.{splitOn};
@@ -12,21 +12,15 @@ ghost use Rattle.table.specs.Checks.{checkTable};
 ghost use Rattle.table.specs.Tables.{tableOf};
 ghost use Rattle.table.specs.declared.Answer.the-variants.{Fine};
 ghost use Rattle.engine.specs.Tallies.{mostCount, Roomy};
-ghost use Rattle.engine.specs.Play.{Ready};
-ghost use Rattle.judging.specs.Rows.{numbersText, lineText, headText, cycleNumbers, cycleText, sumNumbers, sumText};
-ghost use Rattle.judging.specs.Report.{reportText, logText, reportOn};
-ghost use Rattle.judging.specs.Telling.{refusalOf, sumOf, surely, Tells};
+ghost use Rattle.report.specs.Rows.{sumNumbers, sumText};
+ghost use Rattle.judging.specs.Report.{reportText, logText, reportOn, sumOf, refusalOf, surely};
 ghost use Rattle.judging.specs.Cut.{isEnd, endIn, cutOf, linesEnd, wholeLines};
-use engine::Cycle;
 use engine::Going;
 use engine::Stop;
 use engine::Tally;
 use model::State;
 use table::Answer;
 use table::Table;
-
-// The number of the report's layout.
-const LAYOUT: u64 = 1;
 
 // The longest `kept` row.
 const LONGEST_KEPT: usize = 75;
@@ -36,91 +30,14 @@ const HEAD: usize = 9;
 
 const HEAD_AND_SUM: usize = 202;
 
+// How much room the rows have that are only measured.
+const SCRATCH: usize = 4096;
+
 // What the lines of a closed cycle take at least: its `sm` and its `fm`.
 const CYCLE_LINES: usize = 44;
 
 // The most that a count may come to.
 const MOST_COUNT: u64 = 9223372036854775808;
-
-// What telling the kept cycles of a log came to: where it stands, the place behind the rows written, and why it stopped. A cycle that it
-// stopped at is not told yet: its row has no room.
-pub struct Told {
-    pub going: Going,
-    pub at: usize,
-    pub filled: usize,
-    pub stop: Stop,
-}
-
-// How wide a line is, its word so many letters.
-fn line_width(letters: usize, numbers: &[u64]) -> usize
-    requires { ⌜ (letters ≤ 6) × (length (now numbers) ≤ 9) ⌝ }
-    ensures { λ r. ⌜ r ≡ letters + length (numbersText (now (numbers .entry))) ⌝ }
-{
-    let mut w = letters + 1;
-    let mut i = 0;
-    while i < numbers.len() {
-        w += 1 + text::width(numbers[i]);
-        i += 1;
-    }
-    w
-}
-
-// Writes a word with its numbers, or nothing where the line does not fit.
-fn put_line(buf: &mut [u8], at: usize, word: &[u8], numbers: &[u64]) -> usize
-    requires { ⌜ (length (now word) ≤ 6) × (length (now numbers) ≤ 9) ⌝ }
-    ensures { λ r. ⌜ Put (now (buf .entry)) at (lineText (now (word .entry)) (now (numbers .entry))) r (now (buf .exit)) ⌝ }
-{
-    let w = line_width(word.len(), numbers);
-    if !text::fits(buf.len(), at, w) {
-        return at;
-    }
-    let mut place = text::put_bytes(buf, at, word);
-    let mut i = 0;
-    while i < numbers.len() {
-        buf[place] = text::TAB;
-        place = text::put_number(buf, place + 1, numbers[i]);
-        i += 1;
-    }
-    buf[place] = text::NEWLINE;
-    place + 1
-}
-
-// Writes the header, or nothing where it does not fit.
-pub fn put_head(buf: &mut [u8]) -> usize
-    ensures { λ r. ⌜ Put (now (buf .entry)) 0 headText r (now (buf .exit)) ⌝ }
-{
-    let numbers = [LAYOUT; 1];
-    put_line(buf, 0, b"cycles", &numbers)
-}
-
-// The numbers of a kept cycle's row.
-fn cycle_numbers(k: Cycle) -> [u64; 6]
-    ensures { λ r. ⌜ r ≡ cycleNumbers k ⌝ }
-{
-    let mut n = [0u64; 6];
-    n[0] = k.task as u64;
-    n[1] = k.cycle;
-    n[2] = k.opened;
-    n[3] = k.closed;
-    n[4] = k.missed;
-    n[5] = k.longest;
-    n
-}
-
-// Writes the row of a kept cycle, or nothing where it does not fit.
-pub fn put_cycle(buf: &mut [u8], at: usize, k: Cycle) -> usize
-    ensures { λ r. ⌜ Put (now (buf .entry)) at (cycleText k) r (now (buf .exit)) ⌝ }
-{
-    let numbers = cycle_numbers(k);
-    put_line(buf, at, b"kept", &numbers)
-}
-
-fn cycle_width(k: Cycle) -> usize
-    ensures { λ r. ⌜ r ≡ length (cycleText k) ⌝ }
-{
-    let numbers = cycle_numbers(k);
-    line_width(4, &numbers)
-}
 
 // How many tasks manage.
 fn count_managing(rows: &[u32], index: &[u32], s: State) -> u64
@@ -184,49 +101,7 @@ pub fn put_sum(
     ensures { λ r. ⌜ Put (now (buf .entry)) at (sumText (sumOf (tableIn (now (rows .entry)) (now (index .entry))) (g .state) (g .tally) refusal)) r (now (buf .exit)) ⌝ }
 {
     let numbers = sum_numbers(rows, index, g, refusal);
-    put_line(buf, at, b"sum", &numbers)
-}
-
-// Plays a log from a place on, and writes the row of each cycle that is kept as it closes, as long as there is room.
-pub fn put_kept(
-    rows: &[u32],
-    index: &[u32],
-    log: &[u8],
-    from: usize,
-    start: Going,
-    buf: &mut [u8],
-    place: usize,
-) -> Told
-    requires { ⌜ Prepared (now rows) (now index) × Ready (tableIn (now rows) (now index)) start × (from ≤ length (now log)) × Roomy (start .tally) (length (now log) - from) × (place ≤ length (now buf)) ⌝ }
-    ensures { λ r. ⌜ Tells (tableIn (now (rows .entry)) (now (index .entry))) (now (log .entry)) from start (now (buf .entry)) place r (now (buf .exit)) ⌝ }
-{
-    let mut g = start;
-    let mut at = from;
-    let mut filled = place;
-    loop {
-        let r = engine::run(rows, index, log, at, g);
-        g = r.going;
-        at = r.at;
-        let stop = r.stop;
-        let Stop::Closed(k) = stop else {
-            return Told {
-                going: g,
-                at: at,
-                filled: filled,
-                stop: stop,
-            };
-        };
-        let more = put_cycle(buf, filled, k);
-        if more == filled {
-            return Told {
-                going: g,
-                at: at,
-                filled: filled,
-                stop: stop,
-            };
-        }
-        filled = more;
-    }
+    report::put_line(buf, at, b"sum", &numbers)
 }
 
 // The zeros of a refused table's `sum` row, with its refusal and line.
@@ -244,11 +119,11 @@ pub fn put_refused(report: &mut [u8], n: u64, line: usize) -> usize
     ensures { λ r. ⌜ Put (now (report .entry)) 0 (reportText (refusedReport n line)) r (now (report .exit)) ⌝ }
 {
     let numbers = refused_numbers(n, line);
-    if report.len() < HEAD + line_width(3, &numbers) {
+    if report.len() < HEAD + report::line_width(3, &numbers) {
         return 0;
     }
-    let at = put_head(report);
-    put_line(report, at, b"sum", &numbers)
+    let at = report::put_head(report);
+    report::put_line(report, at, b"sum", &numbers)
 }
 
 // Does the report on a log fit the room? Judges it once, and writes nothing.
@@ -259,23 +134,26 @@ fn does_fit(rows: &[u32], index: &[u32], log: &[u8], room: usize) -> bool
     if room < HEAD {
         return false;
     }
+    let mut scratch = [0u8; SCRATCH];
     let mut g = engine::fresh_going();
     let mut at = 0;
+    let mut filled = 0;
     let mut width = HEAD;
     loop {
-        let r = engine::run(rows, index, log, at, g);
+        let r = engine::run(rows, index, log, at, g, &mut scratch, filled);
         g = r.going;
         at = r.at;
+        let more = r.filled;
         let stop = r.stop;
-        let Stop::Closed(k) = stop else {
-            let numbers = sum_numbers(rows, index, g, refusal_of(stop));
-            return text::fits(room, width, line_width(3, &numbers));
-        };
-        let more = cycle_width(k);
         if !text::fits(room, width, more) {
             return false;
         }
         width += more;
+        let Stop::Closed(k) = stop else {
+            let numbers = sum_numbers(rows, index, g, refusal_of(stop));
+            return text::fits(room, width, report::line_width(3, &numbers));
+        };
+        filled = report::put_cycle(&mut scratch, 0, k);
     }
 }
 
@@ -295,9 +173,9 @@ fn write_report(rows: &[u32], index: &[u32], log: &[u8], report: &mut [u8]) -> u
     requires { ⌜ Prepared (now rows) (now index) × (length (logText (tableIn (now rows) (now index)) (now log)) ≤ length (now report)) ⌝ }
     ensures { λ r. ⌜ Put (now (report .entry)) 0 (logText (tableIn (now (rows .entry)) (now (index .entry))) (now (log .entry))) r (now (report .exit)) ⌝ }
 {
-    let at = put_head(report);
+    let at = report::put_head(report);
     let g = engine::fresh_going();
-    let told = put_kept(rows, index, log, 0, g, report, at);
+    let told = engine::run(rows, index, log, 0, g, report, at);
     let end = told.going;
     let filled = told.filled;
     let stop = told.stop;

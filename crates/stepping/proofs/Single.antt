@@ -4,7 +4,7 @@ use mathlib.Core.List.{List, [], _∷_}
 use mathlib.Core.Path.{_≡_, refl, sym, ap, _∙_}
 use Prim.Native.Nat.{ℕ, _+_, _-_}
 use native.Mathlib.Omega.{arith}
-use lib.Dec.{eqb}
+use lib.Dec.{eqb, leb}
 use lib.ListN.{length}
 use types.Run.{OneOf, miss}
 use denote.Enum.Declared.{tagOf}
@@ -28,6 +28,7 @@ use Rattle.table.specs.declared.Table as rows
 use Rattle.table.specs.declared.Read.{Read}
 use Rattle.table.specs.declared.Answer.the-variants as answer
 use Rattle.log.proofs.Shapes.{no-step}
+use Rattle.report.specs.Rows.{cycleOf, cycleText}
 use Rattle.engine.specs.Tallies.{tallied, noTally, Roomy}
 use Rattle.engine.specs.Turns.{lineAt}
 use Rattle.engine.specs.Play.{Played, pieces, stopped, onVerdict, onStep, played, Runs}
@@ -58,21 +59,29 @@ goes-on End h s u = refl
 goes-on (Refused n) h s u = absurd (miss (0 ∷ 2 ∷ []) 1 tt h)
 goes-on (Closed c) h s u = refl
 
--- a step that is accepted, whatever its verdict
-on-verdict : (v : Verdict) (s w : State) (c : Tally) (rest : List (List ℕ)) → answerOf s (onVerdict v w c rest (stopped w c End rest)) ≡ record { number = 0; state = w }
-on-verdict none s w c rest = refl
-on-verdict (kept r) s w c rest = refl
-on-verdict dropped s w c rest = refl
+-- a step that is accepted, whatever its verdict and whether the row of a kept cycle has room
+on-verdict : (v : Verdict) (s w : State) (c : Tally) (room : ℕ) (rest : List (List ℕ)) (go : ℕ → Played) → ((n : ℕ) → go n ≡ stopped w c End rest)
+    → answerOf s (onVerdict v w c room rest go) ≡ record { number = 0; state = w }
+on-verdict none s w c room rest go e = rw (e room)
+on-verdict (kept r) s w c room rest go e =
+    let k = cycleOf r in
+    cases (leb (length (cycleText k)) room)
+    (λ h. rw (h, e (room - length (cycleText k))))
+    (λ h. rw h)
+on-verdict dropped s w c room rest go e = rw (e room)
 
-module _ (K : Table) (s : State) (c : Tally) (x : Step) where
-  on-step : (here rest : List (List ℕ)) (go : State → Tally → Played) → ((w : State) (d : Tally) → go w d ≡ stopped w d End rest) → answerOf s (onStep K s c x here rest go) ≡ lineStepped K s (Is x)
+module _ (K : Table) (s : State) (c : Tally) (room : ℕ) (x : Step) where
+  on-step : (here rest : List (List ℕ)) (go : State → Tally → ℕ → Played) → ((w : State) (d : Tally) (n : ℕ) → go w d n ≡ stopped w d End rest)
+      → answerOf s (onStep K s c room x here rest go) ≡ lineStepped K s (Is x)
   on-step here rest go e =
+      let w = next K s x in
+      let d = tallied K s x c in
       cases (accepted (refusal K s x))
-      (λ h. rw (h, e (next K s x) (tallied K s x c), on-verdict (verdict K s x) s (next K s x) (tallied K s x c) rest, eqb-true (refusal K s x) 0 h))
+      (λ h. rw (h, on-verdict (verdict K s x) s w d room rest (go w d) (e w d), eqb-true (refusal K s x) 0 h))
       (λ h. rw h)
 
   -- a line that reads as a step is the only one
-  one-line : (l : List ℕ) → readLine l ≡ Is x → answerOf s (played K s c (pieces l 0)) ≡ lineStepped K s (Is x)
+  one-line : (l : List ℕ) → readLine l ≡ Is x → answerOf s (played K s c room (pieces l 0)) ≡ lineStepped K s (Is x)
   unfolding readLine
   one-line l h =
       let t = picked (eqb (firstAt l 0 10 + 1) (length l)) no-step h in
@@ -80,8 +89,8 @@ module _ (K : Table) (s : State) (c : Tally) (x : Step) where
       let m : length l - 1 ≡ firstAt l 0 10 - 0 = omega arith in
       let k : firstAt l 0 10 ≡ length l → ⊥ = λ z. omega arith in
       let q : lineAt l 0 (firstAt l 0 10) ≡ Is x = rw (ne-eqb _ _ k) (rw m at (t .1)) in
-      rw (at-step K s c l 0 (firstAt l 0 10) (omega arith) refl x q)
-      (on-step (pieces l 0) (pieces l (firstAt l 0 10 + 1)) _ (λ w d. at-end K w d l (firstAt l 0 10 + 1) (omega arith)))
+      rw (at-step K s c room l 0 (firstAt l 0 10) (omega arith) refl x q)
+      (on-step (pieces l 0) (pieces l (firstAt l 0 10 + 1)) _ (λ w d n. at-end K w d n l (firstAt l 0 10 + 1) (omega arith)))
 
 -- each count has room for such a line
 pub line-roomy : (s : State) (g : Going) (l : List ℕ) (y : Line) (x : Step) → g ≡ goingFrom s → y ≡ readLine l → y ≡ Is x → Roomy (g .tally) (length l - 0)
@@ -92,9 +101,9 @@ module _ (K : Table) (s : State) (l : List ℕ) (y : Line) (e : y ≡ readLine l
   pub line-bad : y ≡ Bad → record { number = 11; state = s } ≡ lineStepped K s (readLine l)
   line-bad h = rw (← e, h)
 
-  module _ (x : Step) (h : y ≡ Is x) (g : Going) (f : g ≡ goingFrom s) (r : Ran) (R : Runs K l 0 g r) where
+  module _ (x : Step) (h : y ≡ Is x) (g : Going) (f : g ≡ goingFrom s) (buf : List ℕ) (place : ℕ) (r : Ran) (after : List ℕ) (R : Runs K l 0 g buf place r after) where
     ran : answerOn (r .stop) s (r .going .state) ≡ lineStepped K s (readLine l)
-    ran = ap (answerOf s) (R .played) ∙ rw (f, ← e, h) (one-line K s noTally x l (sym e ∙ h))
+    ran = ap (answerOf s) (R .played) ∙ rw (f, ← e, h) (one-line K s noTally (length buf - place) x l (sym e ∙ h))
 
     pub line-refused : (n : ℕ) → r .stop ≡ Refused n → record { number = n; state = s } ≡ lineStepped K s (readLine l)
     line-refused n p = rw p at ran

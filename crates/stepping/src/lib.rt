@@ -17,7 +17,7 @@ pub struct Stepped {
     pub state: State,
 }
 
-// A line's step on a sound state: a run over that one line. "A refusal returns the number and the state as it came."
+// A line's step on a sound state: a run over that one line, with no room for the row of a cycle that it keeps. "A refusal returns the number and the state as it came."
 fn step_line(rows: &[u32], index: &[u32], s: State, line: &[u8]) -> Stepped
     requires { ⌜ Prepared (now rows) (now index) × T (sound (tableIn (now rows) (now index)) s) ⌝ }
     ensures { λ r. ⌜ r ≡ lineStepped (tableIn (now (rows .entry)) (now (index .entry))) s (readLine (now (line .entry))) ⌝ }
@@ -28,7 +28,8 @@ fn step_line(rows: &[u32], index: &[u32], s: State, line: &[u8]) -> Stepped
             state: s,
         };
     };
-    let r = engine::run(rows, index, line, 0, engine::going_from(s));
+    let mut none = [0u8; 1];
+    let r = engine::run(rows, index, line, 0, engine::going_from(s), &mut none, 0);
     let stop = r.stop;
     let going = r.going;
     let reached = going.state;

@@ -1,7 +1,8 @@
--- `run` meets its contract. At the start of each line the state is sound, and the lines left come to what all come to from the start. Inside
--- a wait the first tasks have been asked, and once all have been, the first tasks and their holders are older. Inside an `sm` the first
--- activities of its task are in N and R.
+-- `run` meets its contract. At the start of each line the state is sound, and behind the rows written the lines left come to what all
+-- come to from the start. Inside a wait the first tasks have been asked, and once all have been, the first tasks and their holders are
+-- older. Inside an `sm` the first activities of its task are in N and R.
 use Prim.Native.Nat.{_+_, _-_, _<_}
+use mathlib.Core.Path.{_≡_}
 use native.Mathlib.Omega.{arith}
 use denote.Ref.{now}
 use borrow.Author.Needs.{needs}
@@ -12,7 +13,7 @@ use Rattle.prepared.specs.Prepared.{tableIn}
 use Rattle.waits.proofs.Facts.{place-known, timer-fits, clock-fits}
 use Rattle.waits.proofs.Holders.{rows-long, wait-range, ticks-fit, task-fits, holder-fits, Asked, busy-long as asked-long, manager-stops, manager-goes, activity-stops, activity-goes, wait-numbered}
 use Rattle.engine.specs.Tallies.{Roomy}
-use Rattle.engine.proofs.Runs.{Plays, run-starts, run-ends, run-bad, busy-sized, listed-sized, Scene, Turn, Goes, turn-is, newline-inside, less-left, room-for-one, turn-passed, turn-kept}
+use Rattle.engine.proofs.Runs.{Plays, run-starts, run-ends, run-bad, busy-sized, listed-sized, Scene, Turn, Goes, turn-is, newline-inside, less-left, room-for-one, turn-passed, turn-kept, turn-full, turn-told, rows-kept}
 use Rattle.engine.proofs.Waiting.{Ages, ages-none, date-fits, timer-small, ages-manager, ager-fits, clock-small, ages-activity, Waits, turn-waits, asks-none, wait-stops, wait-on}
 use Rattle.engine.proofs.Naming.{Names, rows-missing, turn-names, task-cell, missed-small, cycle-small, opened-before, act-cell, place-there, busy-long, listed-long}
 use Rattle.engine.proofs.Managing.{Lists, listed-fits, lists-more, Manages, turn-manages, managed-there, sm-stops, lists-none, sm-on}
@@ -21,35 +22,35 @@ use Rattle.engine.proofs.run.Statement.{statement}
 use Rattle.engine.proofs.run.Tie as tie
 
 abbrev Inv-loop2 : tie.InvT-loop2
-Inv-loop2 rows index log from nt s busy listed c at e d room₀ k₀ room k = Asked (tableIn rows index) s busy d nt room k
+Inv-loop2 rows index log from buf place nt s busy listed c at filled e d room₀ k₀ room k = Asked (tableIn rows index) s busy d nt room k
 
 abbrev μ-loop2 : tie.MeasureT-loop2
-μ-loop2 rows index log from nt s busy listed c at e d room₀ k₀ room k = nt - k
+μ-loop2 rows index log from buf place nt s busy listed c at filled e d room₀ k₀ room k = nt - k
 
 abbrev Inv-loop3 : tie.InvT-loop3
-Inv-loop3 rows index log from nt s₀ busy listed c at e d room k n m₀ s m = Ages (tableIn rows index) s₀ d nt s m
+Inv-loop3 rows index log from buf place nt s₀ busy listed c at filled e d room k n m₀ s m = Ages (tableIn rows index) s₀ d nt s m
 
 abbrev μ-loop3 : tie.MeasureT-loop3
-μ-loop3 rows index log from nt s₀ busy listed c at e d room k n m₀ s m = nt - m
+μ-loop3 rows index log from buf place nt s₀ busy listed c at filled e d room k n m₀ s m = nt - m
 
 abbrev Inv-loop4 : tie.InvT-loop4
-Inv-loop4 rows index log from nt s₀ busy listed₀ c at e st ti x n end a₀ s listed a = Lists rows index st ti a₀ end s₀ s listed a
+Inv-loop4 rows index log from buf place nt s₀ busy listed₀ c at filled e st ti x n end a₀ s listed a = Lists rows index st ti a₀ end s₀ s listed a
 
 abbrev μ-loop4 : tie.MeasureT-loop4
-μ-loop4 rows index log from nt s₀ busy listed₀ c at e st ti x n end a₀ s listed a = end - a
+μ-loop4 rows index log from buf place nt s₀ busy listed₀ c at filled e st ti x n end a₀ s listed a = end - a
 
 abbrev Inv-loop : tie.InvT-loop
-Inv-loop rows index log from nt s₀ busy₀ listed₀ c₀ at₀ s busy listed c at = Plays (tableIn rows index) log from s₀ c₀ s busy listed c at
+Inv-loop rows index log from buf₀ place nt s₀ busy₀ listed₀ c₀ at₀ filled₀ buf s busy listed c at filled = Plays (tableIn rows index) log from s₀ c₀ buf₀ place s busy listed c at buf filled
 
 abbrev μ-loop : tie.MeasureT-loop
-μ-loop rows index log from nt s₀ busy₀ listed₀ c₀ at₀ s busy listed c at = length log - at
+μ-loop rows index log from buf₀ place nt s₀ busy₀ listed₀ c₀ at₀ filled₀ buf s busy listed c at filled = length log - at
 
 -- The values of a turn, once its step is read, and what each test adds to what is known.
 abbrev scene :
     (c : tie.After-known-told Inv-loop2 μ-loop2 Inv-loop3 μ-loop3 Inv-loop4 μ-loop4 Inv-loop μ-loop) →
     Scene
 scene c =
-    let given = c .before .before .before .before .before .before .before .before .before .before .before .before .before .before .before .args in
+    let given = c .before .before .before .before .before .before .before .before .before .before .before .before .before .before .before .before .args in
     let head = c .before .before .before .before .before .before .loop in
     record {
       rows = now (given .rows);
@@ -57,11 +58,15 @@ scene c =
       log = now (given .log);
       from = given .from;
       start = given .g;
+      lent = now (given .buf);
+      place = given .place;
       state = head .s;
       busy = head .busy;
       listed = head .listed;
       tally = head .c;
       at = head .at;
+      buf = head .buf;
+      filled = head .filled;
       newline = c .before .before .before .before .next-byte .result;
       step = c .before .st .given .0 .0;
     }
@@ -75,12 +80,17 @@ behind-fits :
     (c : tie.After-known-told Inv-loop2 μ-loop2 Inv-loop3 μ-loop3 Inv-loop4 μ-loop4 Inv-loop μ-loop) →
     c .before .before .before .before .next-byte .result + 1 < 18446744073709551616
 behind-fits c =
-    omega (arith, newline-inside (turn c), c .before .before .before .before .before .before .before .before .before .before .before .before .before .before .before .good .1 .1 .0 .0)
+    omega (arith, newline-inside (turn c), c .before .before .before .before .before .before .before .before .before .before .before .before .before .before .before .before .good .1 .1 .0 .0)
 
 falls :
     (c : tie.After-known-told Inv-loop2 μ-loop2 Inv-loop3 μ-loop3 Inv-loop4 μ-loop4 Inv-loop μ-loop) →
-    length (now (c .before .before .before .before .before .before .before .before .before .before .before .before .before .before .before .args .log)) - (c .before .before .before .before .next-byte .result + 1) < length (now (c .before .before .before .before .before .before .before .before .before .before .before .before .before .before .before .args .log)) - c .before .before .before .before .before .before .loop .at
+    length (now (c .before .before .before .before .before .before .before .before .before .before .before .before .before .before .before .before .args .log)) - (c .before .before .before .before .next-byte .result + 1) < length (now (c .before .before .before .before .before .before .before .before .before .before .before .before .before .before .before .before .args .log)) - c .before .before .before .before .before .before .loop .at
 falls c = less-left (turn c)
+
+keeps :
+    (c : tie.After-known-told Inv-loop2 μ-loop2 Inv-loop3 μ-loop3 Inv-loop4 μ-loop4 Inv-loop μ-loop) →
+    length (c .before .before .before .before .before .before .loop .buf) ≡ length (now (c .before .before .before .before .before .before .before .before .before .before .before .before .before .before .before .before .args .buf))
+keeps c = rows-kept (turn c .plays .rows)
 
 counts :
     (c : tie.After-known-told Inv-loop2 μ-loop2 Inv-loop3 μ-loop3 Inv-loop4 μ-loop4 Inv-loop μ-loop) →
@@ -153,6 +163,9 @@ enum-told c = search needs
 left-at-requires : tie.Need-left-at-requires Inv-loop2 μ-loop2 Inv-loop3 μ-loop3 Inv-loop4 μ-loop4 Inv-loop μ-loop
 left-at-requires c κs = search needs
 
+same-length : tie.Need-same-length Inv-loop2 μ-loop2 Inv-loop3 μ-loop3 Inv-loop4 μ-loop4 Inv-loop μ-loop
+same-length c = search rows-kept
+
 returns : tie.Need-returns Inv-loop2 μ-loop2 Inv-loop3 μ-loop3 Inv-loop4 μ-loop4 Inv-loop μ-loop
 returns c = search run-bad
 
@@ -167,6 +180,9 @@ in-range-requires c κs = search needs
 
 left-at-requires-2 : tie.Need-left-at-requires-2 Inv-loop2 μ-loop2 Inv-loop3 μ-loop3 Inv-loop4 μ-loop4 Inv-loop μ-loop
 left-at-requires-2 c κs = search needs
+
+same-length-2 : tie.Need-same-length-2 Inv-loop2 μ-loop2 Inv-loop3 μ-loop3 Inv-loop4 μ-loop4 Inv-loop μ-loop
+same-length-2 c = search keeps
 
 returns-2 : tie.Need-returns-2 Inv-loop2 μ-loop2 Inv-loop3 μ-loop3 Inv-loop4 μ-loop4 Inv-loop μ-loop
 returns-2 c = search (wait-stops (waits (c .before .before .before)) 12 (λ z. omega arith), wait-range)
@@ -198,6 +214,9 @@ either-requires c κs = search needs
 left-at-requires-3 : tie.Need-left-at-requires-3 Inv-loop2 μ-loop2 Inv-loop3 μ-loop3 Inv-loop4 μ-loop4 Inv-loop μ-loop
 left-at-requires-3 c κs = search needs
 
+same-length-3 : tie.Need-same-length-3 Inv-loop2 μ-loop2 Inv-loop3 μ-loop3 Inv-loop4 μ-loop4 Inv-loop μ-loop
+same-length-3 c = search keeps
+
 returns-3 : tie.Need-returns-3 Inv-loop2 μ-loop2 Inv-loop3 μ-loop3 Inv-loop4 μ-loop4 Inv-loop μ-loop
 returns-3 c = search (wait-stops (waits (c .before .before .before .before .before .before .before .before .before .before .before .before)) 16 (λ z. omega arith), manager-stops)
 
@@ -225,6 +244,9 @@ act-hinders-requires c κs = (waits (c .before .before .before .before .before .
 left-at-requires-4 : tie.Need-left-at-requires-4 Inv-loop2 μ-loop2 Inv-loop3 μ-loop3 Inv-loop4 μ-loop4 Inv-loop μ-loop
 left-at-requires-4 c κs = search needs
 
+same-length-4 : tie.Need-same-length-4 Inv-loop2 μ-loop2 Inv-loop3 μ-loop3 Inv-loop4 μ-loop4 Inv-loop μ-loop
+same-length-4 c = search keeps
+
 returns-4 : tie.Need-returns-4 Inv-loop2 μ-loop2 Inv-loop3 μ-loop3 Inv-loop4 μ-loop4 Inv-loop μ-loop
 returns-4 c = search (wait-stops (waits (c .before .before .before .before .before .before .before .before .before .before .before .before .before .before .before)) 16 (λ z. omega arith), activity-stops)
 
@@ -245,6 +267,9 @@ wait-number-requires c κs = (omega (arith, c .before .loop2 .inv .asks .sound .
 
 left-at-requires-5 : tie.Need-left-at-requires-5 Inv-loop2 μ-loop2 Inv-loop3 μ-loop3 Inv-loop4 μ-loop4 Inv-loop μ-loop
 left-at-requires-5 c κs = search needs
+
+same-length-5 : tie.Need-same-length-5 Inv-loop2 μ-loop2 Inv-loop3 μ-loop3 Inv-loop4 μ-loop4 Inv-loop μ-loop
+same-length-5 c = search keeps
 
 returns-5 : tie.Need-returns-5 Inv-loop2 μ-loop2 Inv-loop3 μ-loop3 Inv-loop4 μ-loop4 Inv-loop μ-loop
 returns-5 c = search (wait-stops (waits (c .before .before .before .before .before .before .before)), wait-numbered)
@@ -324,6 +349,9 @@ rows-exist-requires c κs = search needs
 left-at-requires-6 : tie.Need-left-at-requires-6 Inv-loop2 μ-loop2 Inv-loop3 μ-loop3 Inv-loop4 μ-loop4 Inv-loop μ-loop
 left-at-requires-6 c κs = search needs
 
+same-length-6 : tie.Need-same-length-6 Inv-loop2 μ-loop2 Inv-loop3 μ-loop3 Inv-loop4 μ-loop4 Inv-loop μ-loop
+same-length-6 c = search keeps
+
 returns-6 : tie.Need-returns-6 Inv-loop2 μ-loop2 Inv-loop3 μ-loop3 Inv-loop4 μ-loop4 Inv-loop μ-loop
 returns-6 c = search (rows-missing (turn (c .before .before .before .before .before)))
 
@@ -344,6 +372,9 @@ sm-refusal-requires c κs = search (names (c .before .before .before .before))
 
 left-at-requires-7 : tie.Need-left-at-requires-7 Inv-loop2 μ-loop2 Inv-loop3 μ-loop3 Inv-loop4 μ-loop4 Inv-loop μ-loop
 left-at-requires-7 c κs = search needs
+
+same-length-7 : tie.Need-same-length-7 Inv-loop2 μ-loop2 Inv-loop3 μ-loop3 Inv-loop4 μ-loop4 Inv-loop μ-loop
+same-length-7 c = search keeps
 
 returns-7 : tie.Need-returns-7 Inv-loop2 μ-loop2 Inv-loop3 μ-loop3 Inv-loop4 μ-loop4 Inv-loop μ-loop
 returns-7 c = search (sm-stops (manages (c .before .before)))
@@ -426,6 +457,9 @@ task-step-requires c κs = let N = names (c .before .before .before .before .bef
 left-at-requires-8 : tie.Need-left-at-requires-8 Inv-loop2 μ-loop2 Inv-loop3 μ-loop3 Inv-loop4 μ-loop4 Inv-loop μ-loop
 left-at-requires-8 c κs = search needs
 
+same-length-8 : tie.Need-same-length-8 Inv-loop2 μ-loop2 Inv-loop3 μ-loop3 Inv-loop4 μ-loop4 Inv-loop μ-loop
+same-length-8 c = search keeps
+
 returns-8 : tie.Need-returns-8 Inv-loop2 μ-loop2 Inv-loop3 μ-loop3 Inv-loop4 μ-loop4 Inv-loop μ-loop
 returns-8 c = search (task-stops (of-task (c .before .before)))
 
@@ -453,11 +487,23 @@ loop-less-3 c = search falls
 loop-again-3 : tie.Need-loop-again-3 Inv-loop2 μ-loop2 Inv-loop3 μ-loop3 Inv-loop4 μ-loop4 Inv-loop μ-loop
 loop-again-3 c = search (turn-passed (closes (c .before)))
 
+put-cycle-requires : tie.Need-put-cycle-requires Inv-loop2 μ-loop2 Inv-loop3 μ-loop3 Inv-loop4 μ-loop4 Inv-loop μ-loop
+put-cycle-requires c κs = search needs
+
 left-at-requires-9 : tie.Need-left-at-requires-9 Inv-loop2 μ-loop2 Inv-loop3 μ-loop3 Inv-loop4 μ-loop4 Inv-loop μ-loop
 left-at-requires-9 c κs = search needs
 
+same-length-9 : tie.Need-same-length-9 Inv-loop2 μ-loop2 Inv-loop3 μ-loop3 Inv-loop4 μ-loop4 Inv-loop μ-loop
+same-length-9 c = search (turn-kept (closes (c .before .before .before .before .before .before .before .before .before)))
+
 returns-9 : tie.Need-returns-9 Inv-loop2 μ-loop2 Inv-loop3 μ-loop3 Inv-loop4 μ-loop4 Inv-loop μ-loop
-returns-9 c = search (turn-kept (closes (c .before .before .before .before)))
+returns-9 c = search (turn-full (closes (c .before .before .before .before .before .before .before .before .before)))
+
+loop-less-4 : tie.Need-loop-less-4 Inv-loop2 μ-loop2 Inv-loop3 μ-loop3 Inv-loop4 μ-loop4 Inv-loop μ-loop
+loop-less-4 c = search falls
+
+loop-again-4 : tie.Need-loop-again-4 Inv-loop2 μ-loop2 Inv-loop3 μ-loop3 Inv-loop4 μ-loop4 Inv-loop μ-loop
+loop-again-4 c = search (turn-told (closes (c .before .before .before .before .before .before .before .before)))
 
 act-in-requires : tie.Need-act-in-requires Inv-loop2 μ-loop2 Inv-loop3 μ-loop3 Inv-loop4 μ-loop4 Inv-loop μ-loop
 act-in-requires c κs = search needs
@@ -479,6 +525,9 @@ local-step-requires c κs = let N = names (c .before .before .before .before .be
 
 left-at-requires-10 : tie.Need-left-at-requires-10 Inv-loop2 μ-loop2 Inv-loop3 μ-loop3 Inv-loop4 μ-loop4 Inv-loop μ-loop
 left-at-requires-10 c κs = search needs
+
+same-length-10 : tie.Need-same-length-10 Inv-loop2 μ-loop2 Inv-loop3 μ-loop3 Inv-loop4 μ-loop4 Inv-loop μ-loop
+same-length-10 c = search keeps
 
 returns-10 : tie.Need-returns-10 Inv-loop2 μ-loop2 Inv-loop3 μ-loop3 Inv-loop4 μ-loop4 Inv-loop μ-loop
 returns-10 c = search (act-stops (of-act (c .before .before)))
@@ -519,14 +568,17 @@ after-step-requires-2 c κs = search counts
 add-at-4 : tie.Need-add-at-4 Inv-loop2 μ-loop2 Inv-loop3 μ-loop3 Inv-loop4 μ-loop4 Inv-loop μ-loop
 add-at-4 c = record { fits = search behind-fits }
 
-loop-less-4 : tie.Need-loop-less-4 Inv-loop2 μ-loop2 Inv-loop3 μ-loop3 Inv-loop4 μ-loop4 Inv-loop μ-loop
-loop-less-4 c = search falls
+loop-less-5 : tie.Need-loop-less-5 Inv-loop2 μ-loop2 Inv-loop3 μ-loop3 Inv-loop4 μ-loop4 Inv-loop μ-loop
+loop-less-5 c = search falls
 
-loop-again-4 : tie.Need-loop-again-4 Inv-loop2 μ-loop2 Inv-loop3 μ-loop3 Inv-loop4 μ-loop4 Inv-loop μ-loop
-loop-again-4 c = search (act-goes (of-act (c .before .before .before .before .before .before)))
+loop-again-5 : tie.Need-loop-again-5 Inv-loop2 μ-loop2 Inv-loop3 μ-loop3 Inv-loop4 μ-loop4 Inv-loop μ-loop
+loop-again-5 c = search (act-goes (of-act (c .before .before .before .before .before .before)))
 
 left-at-requires-11 : tie.Need-left-at-requires-11 Inv-loop2 μ-loop2 Inv-loop3 μ-loop3 Inv-loop4 μ-loop4 Inv-loop μ-loop
 left-at-requires-11 c κs = search needs
+
+same-length-11 : tie.Need-same-length-11 Inv-loop2 μ-loop2 Inv-loop3 μ-loop3 Inv-loop4 μ-loop4 Inv-loop μ-loop
+same-length-11 c = search rows-kept
 
 returns-11 : tie.Need-returns-11 Inv-loop2 μ-loop2 Inv-loop3 μ-loop3 Inv-loop4 μ-loop4 Inv-loop μ-loop
 returns-11 c = search run-ends
@@ -550,11 +602,13 @@ run-spec =
     enum-known-st
     enum-told
     left-at-requires
+    same-length
     returns
     is-wait-requires
     ticks-of-requires
     in-range-requires
     left-at-requires-2
+    same-length-2
     returns-2
     loop2-holds
     mul-x
@@ -565,6 +619,7 @@ run-spec =
     enum-told-2
     either-requires
     left-at-requires-3
+    same-length-3
     returns-3
     loop2-less
     loop2-again
@@ -574,6 +629,7 @@ run-spec =
     slice-aggregate-act-hinders
     act-hinders-requires
     left-at-requires-4
+    same-length-4
     returns-4
     act-room-requires
     both-requires-2
@@ -581,6 +637,7 @@ run-spec =
     loop2-again-2
     wait-number-requires
     left-at-requires-5
+    same-length-5
     returns-5
     loop3-holds
     mul-x-2
@@ -607,6 +664,7 @@ run-spec =
     loop-again
     rows-exist-requires
     left-at-requires-6
+    same-length-6
     returns-6
     task-in-requires
     mul-x-3
@@ -614,6 +672,7 @@ run-spec =
     is-sm-requires
     sm-refusal-requires
     left-at-requires-7
+    same-length-7
     returns-7
     acts-end-requires
     acts-begin-requires
@@ -641,6 +700,7 @@ run-spec =
     is-empty-for-requires
     task-step-requires
     left-at-requires-8
+    same-length-8
     returns-8
     mul-u-2
     element-set-from-u-2
@@ -650,8 +710,12 @@ run-spec =
     enum-known-w
     loop-less-3
     loop-again-3
+    put-cycle-requires
     left-at-requires-9
+    same-length-9
     returns-9
+    loop-less-4
+    loop-again-4
     act-in-requires
     mul-y-4
     element-copy-out-y-4
@@ -659,6 +723,7 @@ run-spec =
     is-clear-for-requires
     local-step-requires
     left-at-requires-10
+    same-length-10
     returns-10
     mul-u-3
     element-set-from-u-3
@@ -672,7 +737,8 @@ run-spec =
     array-write-listed-2
     after-step-requires-2
     add-at-4
-    loop-less-4
-    loop-again-4
+    loop-less-5
+    loop-again-5
     left-at-requires-11
+    same-length-11
     returns-11)

@@ -3,7 +3,8 @@ use Prim.Native.Nat.{_-_}
 use lib.ListN.{length}
 use borrow.Author.Needs.{needs}
 use Rattle.prepared.specs.Prepared.{tableIn}
-use Rattle.judge.proofs.Blocks.{Judges, judges-start, judges-more, tells-length, tells-done, tells-less}
+use Rattle.judging.proofs.Reporting.{run-less, run-length}
+use Rattle.judge.proofs.Blocks.{Judges, judges-start, judges-more, run-done}
 use Rattle.judge.proofs.judge_chunk.Statement.{statement}
 use Rattle.judge.proofs.judge_chunk.Tie as tie
 
@@ -16,35 +17,35 @@ abbrev μ-loop : tie.MeasureT-loop
 loop-holds : tie.Need-loop-holds Inv-loop μ-loop
 loop-holds c = search (needs, judges-start)
 
-slice-aggregate-put-kept : tie.Need-slice-aggregate-put-kept Inv-loop μ-loop
-slice-aggregate-put-kept c = search needs
+slice-aggregate-run : tie.Need-slice-aggregate-run Inv-loop μ-loop
+slice-aggregate-run c = search needs
 
-put-kept-requires : tie.Need-put-kept-requires Inv-loop μ-loop
-put-kept-requires c κs = search needs
+run-requires : tie.Need-run-requires Inv-loop μ-loop
+run-requires c κs = search needs
 
 slice-aggregate-write : tie.Need-slice-aggregate-write Inv-loop μ-loop
-slice-aggregate-write c = search (needs, tells-length)
+slice-aggregate-write c = search (needs, run-length)
 
 write-requires : tie.Need-write-requires Inv-loop μ-loop
 write-requires c κs = search needs
 
 returns : tie.Need-returns Inv-loop μ-loop
-returns c = search (tells-done)
+returns c = search (run-done)
 
 enum-known-stop : tie.Need-enum-known-stop Inv-loop μ-loop
 enum-known-stop c = search needs
 
 returns-2 : tie.Need-returns-2 Inv-loop μ-loop
-returns-2 c = search (tells-done)
+returns-2 c = search (run-done)
 
 slice-aggregate-put-cycle : tie.Need-slice-aggregate-put-cycle Inv-loop μ-loop
-slice-aggregate-put-cycle c = search (needs, tells-length)
+slice-aggregate-put-cycle c = search (needs, run-length)
 
 put-cycle-requires : tie.Need-put-cycle-requires Inv-loop μ-loop
 put-cycle-requires c κs = search needs
 
 loop-less : tie.Need-loop-less Inv-loop μ-loop
-loop-less c = search (tells-less)
+loop-less c = search (run-less)
 
 loop-again : tie.Need-loop-again Inv-loop μ-loop
 loop-again c = search (judges-more)
@@ -56,8 +57,8 @@ judge-chunk-spec =
     Inv-loop
     μ-loop
     loop-holds
-    slice-aggregate-put-kept
-    put-kept-requires
+    slice-aggregate-run
+    run-requires
     slice-aggregate-write
     write-requires
     returns

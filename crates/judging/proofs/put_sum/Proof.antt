@@ -1,6 +1,6 @@
 -- `put_sum` meets its contract.
 use borrow.Author.Needs.{needs}
-use Rattle.judging.proofs.Lines.{known-put}
+use Rattle.report.proofs.Lines.{known-put}
 use Rattle.judging.proofs.put_sum.Statement.{statement}
 use Rattle.judging.proofs.put_sum.Tie as tie
 

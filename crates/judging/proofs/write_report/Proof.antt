@@ -11,8 +11,8 @@ put-head-requires c κs = search needs
 fresh-going-requires : tie.Need-fresh-going-requires
 fresh-going-requires c κs = search needs
 
-put-kept-requires : tie.Need-put-kept-requires
-put-kept-requires c κs =
+run-requires : tie.Need-run-requires
+run-requires c κs =
     let start = c .before .before .before .before .before .before .before .before .before .before in
     let fresh = fresh-start _ (start .args .log .now) _ (c .before .fresh-going .ensures) (omega arith) in
     (start .pre .0, fresh .0, fresh .1, fresh .2, head-within _ _ _ (start .pre .1) _ _ (c .before .before .before .before .put-head .ensures))
@@ -24,7 +24,7 @@ put-sum-requires : tie.Need-put-sum-requires
 put-sum-requires c κs =
     let told = c .before .before .before .before .before in
     let start = told .before .before .before .before .before .before .before .before .before .before .before in
-    (start .pre .0, roomy-steps (told .put-kept .ensures .roomy))
+    (start .pre .0, roomy-steps (told .run .ensures .roomy))
 
 same-length : tie.Need-same-length
 same-length c = search needs
@@ -34,7 +34,7 @@ returns c =
     let told = c .before .before .before .before .before .before .before .before in
     let head = told .before .before .before .before .before in
     let start = head .before .before .before .before .before .before in
-    report-put _ _ _ (start .pre .1) _ _ (head .put-head .ensures) _ (told .before .before .fresh-going .ensures) _ _ (told .put-kept .ensures)
+    report-put _ _ _ (start .pre .1) _ _ (head .put-head .ensures) _ (told .before .before .fresh-going .ensures) _ _ (told .run .ensures)
     _ (c .before .before .before .refusal-of .ensures) _ _ (c .before .before .put-sum .ensures)
 
 pub write-report-spec : {M : Type 1} → statement M
@@ -43,7 +43,7 @@ write-report-spec =
     (tie.spec
     put-head-requires
     fresh-going-requires
-    put-kept-requires
+    run-requires
     refusal-of-requires
     put-sum-requires
     same-length

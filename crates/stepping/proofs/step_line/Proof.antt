@@ -20,6 +20,9 @@ returns c = search line-bad
 going-from-requires : tie.Need-going-from-requires
 going-from-requires c κs = search needs
 
+slice-aggregate-run : tie.Need-slice-aggregate-run
+slice-aggregate-run c = search needs
+
 run-requires : tie.Need-run-requires
 run-requires c κs = search (needs, ready, line-roomy)
 
@@ -41,6 +44,7 @@ step-line-spec =
     enum-told-2
     returns
     going-from-requires
+    slice-aggregate-run
     run-requires
     enum-known-stop
     returns-2

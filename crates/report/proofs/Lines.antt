@@ -13,8 +13,9 @@ use Rattle.text.specs.Number.{widthOf, digits}
 use Rattle.text.specs.Put.{Put}
 use Rattle.text.proofs.Numbers.{length-digits, width-within}
 use Rattle.text.proofs.Turns.{put-none, put-room}
-use Rattle.text.proofs.Puts.{put-fits, sets-append}
-use Rattle.judging.specs.Rows.{numbersText, lineText, headText}
+use Rattle.text.proofs.Puts.{put-fits, laid-length, sets-append}
+use Rattle.report.specs.Rows.{numbersText, lineText, keptWord, headText, cycleNumbers, cycleText}
+use Rattle.report.specs.declared.Cycle.{Cycle}
 
 -- the numbers of a line from one on
 module _ (ns : List ℕ) (i : ℕ) where
@@ -32,10 +33,18 @@ unfolding numbersText
 numbers-some [] = omega arith
 numbers-some (n ∷ ns) = omega arith
 
+-- a writer keeps the buffer's length
+pub put-length : {buf text after : List ℕ} {at r : ℕ} → Put buf at text r after → length after ≡ length buf
+put-length {buf} {text} {at = at} p = ap length (p .bytes) ∙ laid-length buf at text
+
 -- the width of a line
 pub line-length : (word ns : List ℕ) → length (lineText word ns) ≡ length word + length (numbersText ns)
 unfolding lineText
 line-length word ns = length-append word (numbersText ns)
+
+-- the row of a kept cycle is never empty
+pub row-some : (k : Cycle) → 0 < length (cycleText k)
+row-some k = omega (arith, line-length keptWord (cycleNumbers k), numbers-some (cycleNumbers k))
 
 -- the header's width
 pub head-length : length headText ≡ 9
@@ -47,6 +56,10 @@ pub numbers-most : (ns : List ℕ) → length (numbersText ns) ≤ 1 + 21 * leng
 unfolding numbersText
 numbers-most [] = omega arith
 numbers-most (n ∷ ns) = let h = numbers-most ns in omega (arith, length-append (digits n) (numbersText ns), length-digits n, width-within n .1)
+
+-- so is the row of a kept cycle no wider than this
+pub row-most : (k : Cycle) → length (cycleText k) ≤ 131
+row-most k = omega (arith, line-length keptWord (cycleNumbers k), numbers-most (cycleNumbers k))
 
 -- a number is at most twenty digits wide
 pub width-small : (n w : ℕ) → w ≡ widthOf n → w ≤ 20

@@ -4,10 +4,10 @@ use mathlib.Core.Path.{_≡_}
 use native.Mathlib.Omega.{arith}
 use lib.ListN.{length, drop}
 use borrow.Author.Needs.{needs}
-use Rattle.judging.specs.Rows.{numbersText}
-use Rattle.judging.proofs.Lines.{width-small, width-more, width-all}
-use Rattle.judging.proofs.line_width.Statement.{statement}
-use Rattle.judging.proofs.line_width.Tie as tie
+use Rattle.report.specs.Rows.{numbersText}
+use Rattle.report.proofs.Lines.{width-small, width-more, width-all}
+use Rattle.report.proofs.line_width.Statement.{statement}
+use Rattle.report.proofs.line_width.Tie as tie
 
 abbrev Inv-loop : tie.InvT-loop
 Inv-loop letters numbers w₀ i₀ w i = (i ≤ length numbers) × (w ≤ 7 + 21 * i) × (w + length (numbersText (drop i numbers)) ≡ letters + length (numbersText numbers) + 1)

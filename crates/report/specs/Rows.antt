@@ -3,8 +3,7 @@ use Prim.Native.Nat.{ℕ}
 use mathlib.Core.List.{List, [], _∷_, _++_}
 use Rattle.text.specs.Number.{digits}
 use Rattle.model.specs.Cycles.{KeptRow, SumRow}
-use Rattle.engine.specs.Tallies.{cycleOf}
-use Rattle.engine.specs.declared.Cycle.{Cycle}
+use Rattle.report.specs.declared.Cycle.{Cycle}
 
 -- numbers, a tab before each, and the line's newline
 unfoldable pub numbersText : List ℕ → List ℕ
@@ -38,6 +37,10 @@ cycleNumbers r = r .task ∷ r .cycle ∷ r .opened ∷ r .closed ∷ r .missed 
 
 abbrev pub cycleText : Cycle → List ℕ
 cycleText r = lineText keptWord (cycleNumbers r)
+
+-- a kept cycle as the code has it
+abbrev pub cycleOf : KeptRow → Cycle
+cycleOf r = record { task = r .task; cycle = r .cycle; opened = r .opened; closed = r .closed; missed = r .missed; longest = r .longest }
 
 abbrev pub keptText : KeptRow → List ℕ
 keptText r = cycleText (cycleOf r)

@@ -2,10 +2,10 @@
 use Prim.Native.Nat.{_-_, _≤_}
 use lib.ListN.{length, drop}
 use borrow.Author.Needs.{needs}
-use Rattle.judging.specs.Rows.{numbersText}
-use Rattle.judging.proofs.Lines.{Writing, line-none, line-start, line-kept, line-room, line-more, line-end}
-use Rattle.judging.proofs.put_line.Statement.{statement}
-use Rattle.judging.proofs.put_line.Tie as tie
+use Rattle.report.specs.Rows.{numbersText}
+use Rattle.report.proofs.Lines.{Writing, line-none, line-start, line-kept, line-room, line-more, line-end}
+use Rattle.report.proofs.put_line.Statement.{statement}
+use Rattle.report.proofs.put_line.Tie as tie
 
 abbrev Inv-loop : tie.InvT-loop
 Inv-loop buf₀ at word numbers w place₀ i₀ buf place i = (i ≤ length numbers) × Writing buf₀ place₀ (numbersText numbers) buf place (numbersText (drop i numbers))

@@ -1,8 +1,8 @@
 -- `put_cycle` meets its contract.
 use borrow.Author.Needs.{needs}
-use Rattle.judging.proofs.Lines.{known-put}
-use Rattle.judging.proofs.put_cycle.Statement.{statement}
-use Rattle.judging.proofs.put_cycle.Tie as tie
+use Rattle.report.proofs.Lines.{known-put}
+use Rattle.report.proofs.put_cycle.Statement.{statement}
+use Rattle.report.proofs.put_cycle.Tie as tie
 
 cycle-numbers-requires : tie.Need-cycle-numbers-requires
 cycle-numbers-requires c κs = search needs
