@@ -1,6 +1,5 @@
 pub mod Lines
 pub mod StepKinds
-pub mod Tallying
 pub mod Flags
 pub mod Runs
 pub mod Waiting

@@ -18,7 +18,7 @@ use Rattle.log.specs.Lines.{readStep}
 use Rattle.log.proofs.Shapes.{no-step}
 use Rattle.engine.specs.Play.{pieces, stopped, onStep, onLine, played}
 use Rattle.engine.specs.Turns.{lineAt}
-use Rattle.engine.specs.declared.Tally.{Tally}
+use Rattle.tally.specs.declared.Tally.{Tally}
 use Rattle.engine.specs.declared.Stop.the-variants.{End, Refused}
 
 -- the lines from a place on: that up to the first newline, then the others

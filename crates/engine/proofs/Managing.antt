@@ -21,13 +21,13 @@ use Rattle.rules.specs.Local.{named, taskIn}
 use Rattle.waits.specs.Beside.{listedOf, listedIn}
 use Rattle.waits.proofs.Beside.{map-set}
 use Rattle.waits.proofs.Facts.{act-of}
-use Rattle.engine.specs.Tallies.{afterSm}
+use Rattle.tally.specs.Tallies.{afterSm}
 use Rattle.engine.specs.Turns.{isSm, smBy, flagged, flaggedFrom}
-use Rattle.engine.specs.declared.Tally.{Tally}
-use Rattle.engine.specs.declared.Ruling.the-variants.{Open}
+use Rattle.tally.specs.declared.Tally.{Tally}
+use Rattle.tally.specs.declared.Ruling.the-variants.{Open}
 use Rattle.engine.specs.declared.Ran.{Ran}
 use Rattle.engine.proofs.StepKinds.{sm-is}
-use Rattle.engine.proofs.Tallying.{sm-counts, sm-roomy}
+use Rattle.tally.proofs.Tallying.{sm-counts, sm-roomy}
 use Rattle.engine.proofs.Flags.{flagged-none, flagged-more, flagged-busy, flagged-next}
 use Rattle.engine.proofs.Runs.{Scene, table, GoesOn, StopsAs, RefusedAs, Goes, here, sound-here, less-left, turn-stops, turn-open}
 use Rattle.engine.proofs.Naming.{Names, task-there}

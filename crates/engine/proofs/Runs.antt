@@ -30,19 +30,19 @@ use Rattle.waits.specs.Beside.{busyOf, listedOf, busyIn, listedIn}
 use Rattle.report.specs.Rows.{cycleOf, cycleText}
 use Rattle.report.specs.declared.Cycle.{Cycle}
 use Rattle.report.proofs.Lines.{put-length, row-some}
-use Rattle.engine.specs.Tallies.{rulingOf, tallied, Roomy}
+use Rattle.tally.specs.Tallies.{rulingOf, tallied, Roomy}
 use Rattle.engine.specs.Play.{Played, pieces, told, stopped, telling, onKept, onVerdict, onStep, played, ranOf, Ready, isClosed, Runs}
 use Rattle.engine.specs.Turns.{lineAt}
-use Rattle.engine.specs.declared.Tally.{Tally}
-use Rattle.engine.specs.declared.Ruling.{Ruling}
-use Rattle.engine.specs.declared.Ruling.the-variants.{Open, Kept}
+use Rattle.tally.specs.declared.Tally.{Tally}
+use Rattle.tally.specs.declared.Ruling.{Ruling}
+use Rattle.tally.specs.declared.Ruling.the-variants.{Open, Kept}
 use Rattle.engine.specs.declared.Stop.{Stop}
 use Rattle.engine.specs.declared.Stop.the-variants.{End, Refused, Closed}
 use Rattle.engine.specs.declared.Going.{Going}
 use Rattle.engine.specs.declared.Ran.{Ran}
-use Rattle.engine.proofs.Ruling.{the-type}
+use Rattle.tally.proofs.Ruling.{the-type}
 use Rattle.engine.proofs.Lines.{at-end, at-bad, step-ends, at-step}
-use Rattle.engine.proofs.Tallying.{roomy-one}
+use Rattle.tally.proofs.Tallying.{roomy-one}
 
 -- what holds where a line starts: the state is sound, what is kept beside it agrees, and there is room to count the lines left
 pub record Stands (K : Table) (log : List ℕ) (from : ℕ) (s : State) (b l : List ℕ) (c : Tally) (at : ℕ) : Type 0 where

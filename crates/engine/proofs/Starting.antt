@@ -15,7 +15,7 @@ use Rattle.model.specs.declared.Act.{Act}
 use Rattle.model.specs.declared.State.{State}
 use Rattle.model.proofs.Soundness.{fresh-sound}
 use Rattle.waits.specs.Beside.{busyOf, listedOf}
-use Rattle.engine.specs.Tallies.{noTally, mostCount, Roomy}
+use Rattle.tally.specs.Tallies.{noTally, mostCount, Roomy}
 use Rattle.engine.specs.Play.{Ready}
 use Rattle.engine.specs.Starts.{goingFrom, freshGoing}
 use Rattle.engine.specs.declared.Going.{Going}

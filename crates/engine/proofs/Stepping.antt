@@ -13,14 +13,14 @@ use Rattle.rules.specs.declared.Told.{Told}
 use Rattle.rules.proofs.Steps.{answeredTask, answered, task-refusal, local-refusal, task-next, local-next}
 use Rattle.waits.specs.Beside.{busyOf, listedOf, clearForBy, emptyForBy}
 use Rattle.waits.proofs.Beside.{map-set, clear-for-by, empty-for-by}
-use Rattle.engine.specs.Tallies.{rulingOf, rulingBy, afterStep}
+use Rattle.tally.specs.Tallies.{rulingOf, rulingBy, afterStep}
 use Rattle.engine.specs.Turns.{isSm}
-use Rattle.engine.specs.declared.Tally.{Tally}
-use Rattle.engine.specs.declared.Ruling.{Ruling}
-use Rattle.engine.specs.declared.Ruling.the-variants.{Open}
+use Rattle.tally.specs.declared.Tally.{Tally}
+use Rattle.tally.specs.declared.Ruling.{Ruling}
+use Rattle.tally.specs.declared.Ruling.the-variants.{Open}
 use Rattle.engine.specs.declared.Ran.{Ran}
-use Rattle.engine.proofs.StepKinds.{act-is}
-use Rattle.engine.proofs.Tallying.{ruling-is, act-open, step-counts, step-roomy}
+use Rattle.engine.proofs.StepKinds.{act-is, opens-none}
+use Rattle.tally.proofs.Tallying.{ruling-is, act-open, step-counts, step-roomy}
 use Rattle.engine.proofs.Runs.{Scene, table, GoesOn, StopsAs, RefusedAs, Goes, given, here, sound-here, formed-here, less-left, turn-stops, turn-open}
 use Rattle.engine.proofs.Naming.{Names}
 
@@ -67,7 +67,7 @@ module _ {σ : Scene} {t : ℕ} {r : TaskTold} (L : TaskSteps σ t r) where
         state = rw (L .task, L .told) (sym (task-next (table σ) (σ .state) (σ .step) (L .kind) (ap (λ r. r .number) (sym (L .told)) ∙ z)));
         busy = H .busy;
         listed = H .listed;
-        tally = ed ∙ rw rules (step-counts (table σ) (σ .state) (σ .tally) (σ .step) (N .other) (L .others .other));
+        tally = ed ∙ rw rules (step-counts (table σ) (σ .state) (σ .tally) (σ .step) (N .other) (opens-none (σ .step) (L .others .other)));
         roomy = rw ed (step-roomy (σ .tally) _ (H .roomy) _ (less-left (N .turn)) v);
         ruling = rules;
       }
@@ -116,7 +116,7 @@ module _ {σ : Scene} {t a : ℕ} {r : Told} (L : Steps σ t a r) where
         state = rw (L .task, L .act, L .told) (sym (local-next (table σ) (σ .state) (σ .step) (L .kind) (ap (λ r. r .number) (sym (L .told)) ∙ z)));
         busy = rw (here (N .turn) .busy, eb, map-set busyOf (σ .state .acts) a (r .act));
         listed = rw (here (N .turn) .listed, el, map-set listedOf (σ .state .acts) a (r .act));
-        tally = ed ∙ ap (afterStep (σ .tally)) none ∙ step-counts (table σ) (σ .state) (σ .tally) (σ .step) (N .other) (L .others .other);
+        tally = ed ∙ ap (afterStep (σ .tally)) none ∙ step-counts (table σ) (σ .state) (σ .tally) (σ .step) (N .other) (opens-none (σ .step) (L .others .other));
         roomy = rw ed (step-roomy (σ .tally) _ (here (N .turn) .roomy) _ (less-left (N .turn)) Open);
         ruling = none;
       }

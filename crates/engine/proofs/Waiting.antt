@@ -21,13 +21,13 @@ use Rattle.waits.specs.Waits.{olderActs}
 use Rattle.waits.proofs.Facts.{clock-fits, timer-fits}
 use Rattle.waits.proofs.Holders.{Asks, Asked, asked-none}
 use Rattle.waits.proofs.Older.{older-busy, older-listed, not-older, older-next}
-use Rattle.engine.specs.Tallies.{afterWait}
+use Rattle.tally.specs.Tallies.{afterWait}
 use Rattle.engine.specs.Turns.{ticksOf}
-use Rattle.engine.specs.declared.Tally.{Tally}
-use Rattle.engine.specs.declared.Ruling.the-variants.{Open}
+use Rattle.tally.specs.declared.Tally.{Tally}
+use Rattle.tally.specs.declared.Ruling.the-variants.{Open}
 use Rattle.engine.specs.declared.Ran.{Ran}
 use Rattle.engine.proofs.StepKinds.{wait-is}
-use Rattle.engine.proofs.Tallying.{wait-counts, wait-roomy}
+use Rattle.tally.proofs.Tallying.{wait-counts, wait-roomy}
 use Rattle.engine.proofs.Runs.{Scene, table, Turn, GoesOn, StopsAs, RefusedAs, Goes, here, sound-here, formed-here, less-left, turn-stops, turn-open}
 
 -- the first m of nt tasks and their holders are older by a wait of d ticks

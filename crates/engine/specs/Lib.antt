@@ -1,4 +1,3 @@
-pub mod Tallies
 pub mod Play
 pub mod Turns
 pub mod Starts

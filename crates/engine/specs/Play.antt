@@ -21,8 +21,8 @@ use Rattle.report.specs.Rows.{cycleOf, cycleText}
 use Rattle.report.specs.declared.Cycle.{Cycle}
 use Rattle.log.specs.Lines.{readStep}
 use Rattle.waits.specs.Beside.{busyIn, listedIn}
-use Rattle.engine.specs.Tallies.{tallied, Roomy}
-use Rattle.engine.specs.declared.Tally.{Tally}
+use Rattle.tally.specs.Tallies.{tallied, Roomy}
+use Rattle.tally.specs.declared.Tally.{Tally}
 use Rattle.engine.specs.declared.Stop.{Stop}
 use Rattle.engine.specs.declared.Stop.the-variants.{End, Refused, Closed}
 use Rattle.engine.specs.declared.Going.{Going}

@@ -2,7 +2,7 @@
 use Rattle.model.specs.States.{fresh}
 use Rattle.model.specs.declared.State.{State}
 use Rattle.waits.specs.Beside.{busyIn, listedIn}
-use Rattle.engine.specs.Tallies.{noTally}
+use Rattle.tally.specs.Tallies.{noTally}
 use Rattle.engine.specs.declared.Going.{Going}
 
 abbrev pub goingFrom : State → Going

@@ -10,7 +10,7 @@ ghost use Rattle.model.specs.Logs.{isWait};
 ghost use Rattle.model.specs.Rules.{managed, aged};
 ghost use Rattle.prepared.specs.Prepared.{tableIn, Prepared};
 ghost use Rattle.rules.specs.Local.{named};
-ghost use Rattle.engine.specs.Tallies.{ruledBy, rulingBy, afterWait, afterSm, afterStep, Roomy};
+ghost use Rattle.tally.specs.Tallies.{Roomy};
 ghost use Rattle.engine.specs.Play.{ranOf, Ready, Runs};
 ghost use Rattle.engine.specs.Turns.{lineAt, ticksOf, isSm, smNumber, smBy, inLists, flagged};
 ghost use Rattle.engine.specs.Starts.{goingFrom, freshGoing};
@@ -22,24 +22,8 @@ use model::State;
 use model::Step;
 use model::Task;
 use report::Cycle;
-
-// What is counted beside a run: accepted steps, cycles opened, kept and dropped, the steps since the last wait, and the most of the
-// stretches that a wait has ended.
-pub struct Tally {
-    pub steps: u64,
-    pub opened: u64,
-    pub kept: u64,
-    pub dropped: u64,
-    pub since: u64,
-    pub most: u64,
-}
-
-// The verdict that a step gives: none, or on the cycle that it closes.
-pub enum Ruling {
-    Open,
-    Kept(Cycle),
-    Dropped,
-}
+use tally::Ruling;
+use tally::Tally;
 
 // Why a run stopped: the log's end, a refused line, or a kept cycle whose row has no room.
 pub enum Stop {
@@ -206,85 +190,6 @@ fn opened_task(date: u64, x: Task) -> Task
     rules::task_anew(u)
 }
 
-// "kept if close date minus open date is at least the task's keep, or missed is at least 1; else dropped"
-fn ruled(rows: &[u32], index: &[u32], t: usize, date: u64, x: Task) -> Ruling
-    requires { ⌜ Prepared (now rows) (now index) × (t < tableIn (now rows) (now index) .ntasks) × (x .opened ≤ date) ⌝ }
-    ensures { λ r. ⌜ r ≡ ruledBy (tableIn (now (rows .entry)) (now (index .entry))) t date x ⌝ }
-{
-    let kept = Ruling::Kept(Cycle {
-        task: t,
-        cycle: x.cycle,
-        opened: x.opened,
-        closed: date,
-        missed: x.missed,
-        longest: x.longest,
-    });
-    if prepared::keep_of(rows, index, t) <= date - x.opened {
-        return kept;
-    }
-    if 1 <= x.missed {
-        return kept;
-    }
-    Ruling::Dropped
-}
-
-// The verdict that an accepted step gives: only `fm` gives one.
-fn ruling_of(rows: &[u32], index: &[u32], st: Step, date: u64, x: Task) -> Ruling
-    requires { ⌜ Prepared (now rows) (now index) × T (named (tableIn (now rows) (now index)) st) × (x .opened ≤ date) ⌝ }
-    ensures { λ r. ⌜ r ≡ rulingBy (tableIn (now (rows .entry)) (now (index .entry))) st date x ⌝ }
-{
-    let Step::Fm(t) = st else {
-        return Ruling::Open;
-    };
-    ruled(rows, index, t, date, x)
-}
-
-fn after_wait(c: Tally) -> Tally
-    requires { ⌜ Roomy c 1 ⌝ }
-    ensures { λ r. ⌜ r ≡ afterWait c ⌝ }
-{
-    let mut d = c;
-    d.steps = c.steps + 1;
-    d.since = 0;
-    if c.most < c.since {
-        d.most = c.since;
-        return d;
-    }
-    d
-}
-
-fn after_sm(c: Tally) -> Tally
-    requires { ⌜ Roomy c 1 ⌝ }
-    ensures { λ r. ⌜ r ≡ afterSm c ⌝ }
-{
-    let mut d = c;
-    d.steps = c.steps + 1;
-    d.opened = c.opened + 1;
-    d.since = c.since + 1;
-    d
-}
-
-// The tally after any other step, by its verdict.
-fn after_step(c: Tally, w: Ruling) -> Tally
-    requires { ⌜ Roomy c 1 ⌝ }
-    ensures { λ r. ⌜ r ≡ afterStep c w ⌝ }
-{
-    let mut d = c;
-    d.steps = c.steps + 1;
-    d.since = c.since + 1;
-    match w {
-        Ruling::Open => d,
-        Ruling::Kept(_) => {
-            d.kept = c.kept + 1;
-            d
-        }
-        Ruling::Dropped => {
-            d.dropped = c.dropped + 1;
-            d
-        }
-    }
-}
-
 fn left_at(
     state: State,
     busy: [usize; model::MOST_ACTS],
@@ -384,7 +289,7 @@ pub fn run(
                 }
             }
             s.date = s.date + d;
-            c = after_wait(c);
+            c = tally::after_wait(c);
             at = e + 1;
             continue;
         }
@@ -409,7 +314,7 @@ pub fn run(
             }
             let u = opened_task(s.date, x);
             s.tasks[ti] = u;
-            c = after_sm(c);
+            c = tally::after_sm(c);
             at = e + 1;
             continue;
         }
@@ -422,8 +327,8 @@ pub fn run(
             }
             let u = told.task;
             s.tasks[ti] = u;
-            let w = ruling_of(rows, index, st, s.date, x);
-            c = after_step(c, w);
+            let w = tally::ruling_of(rows, index, st, s.date, x);
+            c = tally::after_step(c, w);
             at = e + 1;
             let Ruling::Kept(k) = w else {
                 continue;
@@ -450,7 +355,7 @@ pub fn run(
         s.acts[ai] = v;
         busy[ai] = waits::busy_of(v);
         listed[ai] = waits::listed_of(v);
-        c = after_step(c, Ruling::Open);
+        c = tally::after_step(c, Ruling::Open);
         at = e + 1;
     }
     left_at(s, busy, listed, c, at, filled, Stop::End)

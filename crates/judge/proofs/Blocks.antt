@@ -11,9 +11,9 @@ use Rattle.text.proofs.Picks.{order}
 use Rattle.text.proofs.Puts.{put-fits, put-short}
 use Rattle.model.specs.Tables.{Table}
 use Rattle.report.proofs.Lines.{put-length}
-use Rattle.engine.specs.Tallies.{Roomy}
+use Rattle.tally.specs.Tallies.{Roomy}
 use Rattle.engine.specs.Play.{Ready, Runs}
-use Rattle.engine.specs.declared.Tally.{Tally}
+use Rattle.tally.specs.declared.Tally.{Tally}
 use Rattle.engine.specs.declared.Going.{Going}
 use Rattle.engine.specs.declared.Ran.{Ran}
 use Rattle.judging.proofs.Counts.{Grows}

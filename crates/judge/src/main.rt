@@ -4,7 +4,7 @@ ghost use Prim.Native.Nat.{_+_, _≤_};
 ghost use lib.ListN.{length};
 ghost use mathlib.Core.Path.{_≡_};
 ghost use Rattle.prepared.specs.Prepared.{tableIn, Prepared};
-ghost use Rattle.engine.specs.Tallies.{Roomy};
+ghost use Rattle.tally.specs.Tallies.{Roomy};
 ghost use Rattle.engine.specs.Play.{Ready};
 ghost use Rattle.table.specs.Checks.{checkTable};
 ghost use Rattle.table.specs.declared.Answer.the-variants.{Fine};

@@ -21,9 +21,9 @@ use Rattle.model.specs.declared.Line.the-variants as line
 use Rattle.log.specs.Lines.{readStep}
 use Rattle.report.specs.Rows.{cycleOf, cycleText, sumText}
 use Rattle.report.specs.declared.Cycle.{Cycle}
-use Rattle.engine.specs.Tallies.{tallied}
+use Rattle.tally.specs.Tallies.{tallied}
 use Rattle.engine.specs.Play.{Played, told, stopped, telling, onVerdict, onLine, played, pieces, isClosed, Runs}
-use Rattle.engine.specs.declared.Tally.{Tally}
+use Rattle.tally.specs.declared.Tally.{Tally}
 use Rattle.engine.specs.declared.Stop.{Stop}
 use Rattle.engine.specs.declared.Stop.the-variants.{End, Refused, Closed}
 use Rattle.engine.specs.declared.Going.{Going}

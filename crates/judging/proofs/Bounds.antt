@@ -41,7 +41,7 @@ use Rattle.model.proofs.Reports.{steps-accepted}
 use Rattle.log.specs.Lines.{stepWords, aNumber, aSet, readStep}
 use Rattle.log.proofs.Words.{nine, nine-words}
 use Rattle.log.proofs.Shapes.{either, Shapes, shaped}
-use Rattle.engine.specs.Tallies.{keepsOne}
+use Rattle.tally.specs.Tallies.{keepsOne}
 use Rattle.report.specs.Rows.{numbersText, lineText, sumWord, keptText, rowsText, sumNumbers, sumText}
 use Rattle.judging.specs.Report.{linesIn, logText, surely}
 use Rattle.judging.proofs.Telling.{kept-more, rowOf, rows-more}

@@ -16,8 +16,8 @@ use Rattle.model.specs.declared.State.{State}
 use Rattle.prepared.specs.Prepared.{tableIn, Prepared}
 use Rattle.prepared.proofs.Stored.{most-tasks}
 use Rattle.report.specs.Rows.{sumNumbers}
-use Rattle.engine.specs.Tallies.{mostCount, Roomy}
-use Rattle.engine.specs.declared.Tally.{Tally}
+use Rattle.tally.specs.Tallies.{mostCount, Roomy}
+use Rattle.tally.specs.declared.Tally.{Tally}
 use Rattle.judging.specs.Report.{sumOf, surely}
 
 -- the line of a refusal

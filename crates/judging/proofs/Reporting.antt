@@ -30,10 +30,10 @@ use Rattle.prepared.specs.Prepared.{tableIn, Prepared}
 use Rattle.report.specs.Rows.{numbersText, lineText, sumWord, headText, cycleText, rowsText, sumNumbers, sumText}
 use Rattle.report.specs.declared.Cycle.{Cycle}
 use Rattle.report.proofs.Lines.{put-length, head-length, line-length, numbers-most, row-most, Writing, writing-start, writing-put, writing-last}
-use Rattle.engine.specs.Tallies.{mostCount, noTally, Roomy}
+use Rattle.tally.specs.Tallies.{mostCount, noTally, Roomy}
 use Rattle.engine.specs.Play.{pieces, isClosed, Ready, Runs}
 use Rattle.engine.specs.Starts.{freshGoing}
-use Rattle.engine.specs.declared.Tally.{Tally}
+use Rattle.tally.specs.declared.Tally.{Tally}
 use Rattle.engine.specs.declared.Stop.{Stop}
 use Rattle.engine.specs.declared.Stop.the-variants.{End, Refused, Closed}
 use Rattle.engine.specs.declared.Going.{Going}

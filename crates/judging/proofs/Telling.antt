@@ -17,9 +17,9 @@ use Rattle.model.specs.declared.Step.{Step}
 use Rattle.model.specs.declared.Line.{Line}
 use Rattle.model.specs.declared.Line.the-variants as line
 use Rattle.report.specs.Rows.{headText, rowsText, sumText, keptText}
-use Rattle.engine.specs.Tallies.{noTally, keepsOne, tallied}
+use Rattle.tally.specs.Tallies.{noTally, keepsOne, tallied}
 use Rattle.engine.specs.Play.{pieces}
-use Rattle.engine.specs.declared.Tally.{Tally}
+use Rattle.tally.specs.declared.Tally.{Tally}
 use Rattle.judging.specs.Report.{linesIn, logText, sumOf}
 
 -- the tally once these steps are done, and the `sum` row

@@ -5,7 +5,7 @@ use mathlib.Core.List.{List}
 use mathlib.Core.Path.{_≡_, refl, sym}
 use Rattle.text.specs.Put.{Put}
 use Rattle.text.proofs.Puts.{put-unique}
-use Rattle.engine.specs.declared.Tally.{Tally}
+use Rattle.tally.specs.declared.Tally.{Tally}
 use Rattle.judging.specs.Report.{reportOn}
 use Rattle.judging.proofs.Counts.{Grows}
 

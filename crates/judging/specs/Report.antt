@@ -19,7 +19,7 @@ use Rattle.table.specs.declared.Table as rows
 use Rattle.table.specs.declared.Answer.{Answer}
 use Rattle.table.specs.declared.Answer.the-variants.{Fine, Refused}
 use Rattle.report.specs.Rows.{headText, rowsText, sumText}
-use Rattle.engine.specs.declared.Tally.{Tally}
+use Rattle.tally.specs.declared.Tally.{Tally}
 use Rattle.engine.specs.declared.Stop.{Stop}
 use Rattle.engine.specs.declared.Stop.the-variants as stop
 

@@ -11,16 +11,16 @@ ghost use Rattle.prepared.specs.Prepared.{tableIn, Prepared};
 ghost use Rattle.table.specs.Checks.{checkTable};
 ghost use Rattle.table.specs.Tables.{tableOf};
 ghost use Rattle.table.specs.declared.Answer.the-variants.{Fine};
-ghost use Rattle.engine.specs.Tallies.{mostCount, Roomy};
+ghost use Rattle.tally.specs.Tallies.{mostCount, Roomy};
 ghost use Rattle.report.specs.Rows.{sumNumbers, sumText};
 ghost use Rattle.judging.specs.Report.{reportText, logText, reportOn, sumOf, refusalOf, surely};
 ghost use Rattle.judging.specs.Cut.{isEnd, endIn, cutOf, linesEnd, wholeLines};
 use engine::Going;
 use engine::Stop;
-use engine::Tally;
 use model::State;
 use table::Answer;
 use table::Table;
+use tally::Tally;
 
 // The longest `kept` row.
 const LONGEST_KEPT: usize = 75;

@@ -25,6 +25,10 @@ known-codel K p c h e = ltb→lt c (K .ncodels) (subst (λ q. T (known K q)) e h
 pub stop-codel : (K : Table) (a : ℕ) (p : Place) (c : ℕ) → p ≡ stopOf K a → p ≡ Codel c → c < K .ncodels
 stop-codel K a p c e f = first-at (K .ncodels) (isStop K a) c (sym e ∙ f) .0
 
+-- a step that names a task
+pub task-named : (K : Table) (x z : Step) (t : ℕ) → x ≡ z → named K z ≡ ltb t (K .ntasks) → T (named K x) → t < K .ntasks
+task-named K x z t e f h = ltb→lt t (K .ntasks) (subst T f (subst (λ w. T (named K w)) e h))
+
 -- the rows that a step names exist
 module _ (K : Table) (x : Step) (h : T (named K x)) where
   at : (z : Step) → x ≡ z → T (named K z)

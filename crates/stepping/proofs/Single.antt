@@ -29,12 +29,12 @@ use Rattle.table.specs.declared.Read.{Read}
 use Rattle.table.specs.declared.Answer.the-variants as answer
 use Rattle.log.proofs.Shapes.{no-step}
 use Rattle.report.specs.Rows.{cycleOf, cycleText}
-use Rattle.engine.specs.Tallies.{tallied, noTally, Roomy}
+use Rattle.tally.specs.Tallies.{tallied, noTally, Roomy}
 use Rattle.engine.specs.Turns.{lineAt}
 use Rattle.engine.specs.Play.{Played, pieces, stopped, onVerdict, onStep, played, Runs}
 use Rattle.engine.specs.Starts.{goingFrom}
 use Rattle.stepping.specs.Stepping.{lineStepped, stepped}
-use Rattle.engine.specs.declared.Tally.{Tally}
+use Rattle.tally.specs.declared.Tally.{Tally}
 use Rattle.engine.specs.declared.Stop.{Stop}
 use Rattle.engine.specs.declared.Stop.the-variants.{End, Refused, Closed}
 use Rattle.engine.specs.declared.Going.{Going}

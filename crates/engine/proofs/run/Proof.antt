@@ -12,7 +12,7 @@ use Rattle.model.specs.Rules.{putTask}
 use Rattle.prepared.specs.Prepared.{tableIn}
 use Rattle.waits.proofs.Facts.{place-known, timer-fits, clock-fits}
 use Rattle.waits.proofs.Holders.{rows-long, wait-range, ticks-fit, task-fits, holder-fits, Asked, busy-long as asked-long, manager-stops, manager-goes, activity-stops, activity-goes, wait-numbered}
-use Rattle.engine.specs.Tallies.{Roomy}
+use Rattle.tally.specs.Tallies.{Roomy}
 use Rattle.engine.proofs.Runs.{Plays, run-starts, run-ends, run-bad, busy-sized, listed-sized, Scene, Turn, Goes, turn-is, newline-inside, less-left, room-for-one, turn-passed, turn-kept, turn-full, turn-told, rows-kept}
 use Rattle.engine.proofs.Waiting.{Ages, ages-none, date-fits, timer-small, ages-manager, ager-fits, clock-small, ages-activity, Waits, turn-waits, asks-none, wait-stops, wait-on}
 use Rattle.engine.proofs.Naming.{Names, rows-missing, turn-names, task-cell, missed-small, cycle-small, opened-before, act-cell, place-there, busy-long, listed-long}

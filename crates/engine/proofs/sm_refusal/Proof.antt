@@ -1,7 +1,8 @@
 -- `sm_refusal` meets its contract.
 use borrow.Author.Needs.{needs}
 use Rattle.rules.specs.Local.{named}
-use Rattle.engine.proofs.Answers.{task-named, sm-is, sm-none}
+use Rattle.rules.proofs.Named.{task-named}
+use Rattle.engine.proofs.Answers.{sm-is, sm-none}
 use Rattle.engine.proofs.sm_refusal.Statement.{statement}
 use Rattle.engine.proofs.sm_refusal.Tie as tie
 

@@ -1,8 +1,8 @@
 -- `after_step` meets its contract.
 use borrow.Author.Needs.{needs}
-use Rattle.engine.proofs.Answers.{step-counted}
-use Rattle.engine.proofs.after_step.Statement.{statement}
-use Rattle.engine.proofs.after_step.Tie as tie
+use Rattle.tally.proofs.Answers.{step-counted}
+use Rattle.tally.proofs.after_step.Statement.{statement}
+use Rattle.tally.proofs.after_step.Tie as tie
 
 add-d : tie.Need-add-d
 add-d c = search needs

@@ -13,12 +13,10 @@ use Rattle.model.specs.declared.State.{State}
 use Rattle.model.specs.declared.Step.{Step}
 use Rattle.model.specs.declared.Step.the-variants.{Wait, St, Sm, Lm, Ia, Ea, Cx, Fa, Fm}
 use Rattle.rules.specs.Local.{taskIn, ofAct}
-use Rattle.engine.specs.Tallies.{rulingOf, counted, tallied, afterWait, afterSm, afterStep, ruledBy, rulingBy, Roomy}
-use Rattle.engine.specs.Turns.{isSm}
-use Rattle.engine.specs.declared.Tally.{Tally}
-use Rattle.engine.specs.declared.Ruling.{Ruling}
-use Rattle.engine.specs.declared.Ruling.the-variants.{Open, Kept, Dropped}
-use Rattle.engine.proofs.StepKinds.{opens-none}
+use Rattle.tally.specs.Tallies.{rulingOf, counted, tallied, afterWait, afterSm, afterStep, ruledBy, rulingBy, Roomy}
+use Rattle.tally.specs.declared.Tally.{Tally}
+use Rattle.tally.specs.declared.Ruling.{Ruling}
+use Rattle.tally.specs.declared.Ruling.the-variants.{Open, Kept, Dropped}
 
 -- the verdict told by the task's record
 module _ (K : Table) (s : State) where
@@ -67,8 +65,8 @@ module _ (K : Table) (s : State) where
     by-verdict x (kept r) e f = rw (e, f) (simp add-zero)
     by-verdict x dropped e f = rw (e, f) (simp add-zero)
 
-    pub step-counts : (x : Step) → isWait x ≡ false → isSm x ≡ false → afterStep c (rulingOf (verdict K s x)) ≡ tallied K s x c
-    step-counts x w m = by-verdict x (verdict K s x) (opens-none x m) w
+    pub step-counts : (x : Step) → isWait x ≡ false → opens x ≡ 0 → afterStep c (rulingOf (verdict K s x)) ≡ tallied K s x c
+    step-counts x w o = by-verdict x (verdict K s x) o w
 
 -- room for one more, and what is left then
 module _ (c : Tally) (n : ℕ) (R : Roomy c n) where

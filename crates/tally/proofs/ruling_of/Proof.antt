@@ -1,9 +1,10 @@
 -- `ruling_of` meets its contract.
 use borrow.Author.Needs.{needs}
 use Rattle.rules.specs.Local.{named}
-use Rattle.engine.proofs.Answers.{task-named, ruling-is, ruling-none}
-use Rattle.engine.proofs.ruling_of.Statement.{statement}
-use Rattle.engine.proofs.ruling_of.Tie as tie
+use Rattle.rules.proofs.Named.{task-named}
+use Rattle.tally.proofs.Answers.{ruling-is, ruling-none}
+use Rattle.tally.proofs.ruling_of.Statement.{statement}
+use Rattle.tally.proofs.ruling_of.Tie as tie
 
 enum-known-st : tie.Need-enum-known-st
 enum-known-st c = search needs

@@ -12,9 +12,9 @@ use Rattle.model.specs.declared.Step.{Step}
 use Rattle.model.specs.declared.Step.the-variants.{Wait, St, Sm, Lm, Ia, Ea, Cx, Fa, Fm}
 use Rattle.report.specs.Rows.{cycleOf}
 use Rattle.report.specs.declared.Cycle.{Cycle}
-use Rattle.engine.specs.declared.Tally.{Tally}
-use Rattle.engine.specs.declared.Ruling.{Ruling}
-use Rattle.engine.specs.declared.Ruling.the-variants.{Open, Kept, Dropped}
+use Rattle.tally.specs.declared.Tally.{Tally}
+use Rattle.tally.specs.declared.Ruling.{Ruling}
+use Rattle.tally.specs.declared.Ruling.the-variants.{Open, Kept, Dropped}
 
 -- nothing counted yet
 abbrev pub noTally : Tally

@@ -1,8 +1,8 @@
 -- `ruled` meets its contract.
 use borrow.Author.Needs.{needs}
-use Rattle.engine.proofs.Answers.{ruling}
-use Rattle.engine.proofs.ruled.Statement.{statement}
-use Rattle.engine.proofs.ruled.Tie as tie
+use Rattle.tally.proofs.Answers.{ruling}
+use Rattle.tally.proofs.ruled.Statement.{statement}
+use Rattle.tally.proofs.ruled.Tie as tie
 
 keep-of-requires : tie.Need-keep-of-requires
 keep-of-requires c κs = search needs

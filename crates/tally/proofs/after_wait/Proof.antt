@@ -1,9 +1,9 @@
 -- `after_wait` meets its contract.
 use borrow.Author.Needs.{needs}
 use native.Mathlib.Omega.{arith}
-use Rattle.engine.proofs.Answers.{wait-counted}
-use Rattle.engine.proofs.after_wait.Statement.{statement}
-use Rattle.engine.proofs.after_wait.Tie as tie
+use Rattle.tally.proofs.Answers.{wait-counted}
+use Rattle.tally.proofs.after_wait.Statement.{statement}
+use Rattle.tally.proofs.after_wait.Tie as tie
 
 add-d : tie.Need-add-d
 add-d c = search needs
