@@ -126,7 +126,7 @@ pub fn put_refused(report: &mut [u8], n: u64, line: usize) -> usize
     report::put_line(report, at, b"sum", &numbers)
 }
 
-// Does the report on a log fit the room? Judges it once, and writes nothing.
+// Does the report on a log fit the room? Judges it once, its rows into a scratch that is measured and written over.
 fn does_fit(rows: &[u32], index: &[u32], log: &[u8], room: usize) -> bool
     requires { ⌜ Prepared (now rows) (now index) ⌝ }
     ensures { λ r. ⌜ r ≡ leb (length (logText (tableIn (now (rows .entry)) (now (index .entry))) (now (log .entry)))) room ⌝ }
