@@ -166,7 +166,7 @@ abbrev pub table : Scene → Table
 table σ = tableIn (σ .rows) (σ .index)
 
 -- the run has come to these values, goes on with them, and stops
-abbrev pub ComesTo : Scene → State → List ℕ → List ℕ → Tally → ℕ → List ℕ → ℕ → Type 0
+abbrev ComesTo : Scene → State → List ℕ → List ℕ → Tally → ℕ → List ℕ → ℕ → Type 0
 ComesTo σ w b l d at buf filled = Plays (table σ) (σ .log) (σ .from) (σ .start .state) (σ .start .tally) (σ .lent) (σ .place) w b l d at buf filled
 
 abbrev pub GoesOn : Scene → State → List ℕ → List ℕ → Tally → Type 0

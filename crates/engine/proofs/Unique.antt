@@ -16,13 +16,13 @@ use Rattle.engine.specs.declared.Going.{Going}
 use Rattle.engine.specs.declared.Ran.{Ran}
 
 -- the lines left of a log name the place that they are left from
-pub same-place : (log : List ℕ) {m n : ℕ} → m ≤ length log → n ≤ length log → pieces log m ≡ pieces log n → m ≡ n
+same-place : (log : List ℕ) {m n : ℕ} → m ≤ length log → n ≤ length log → pieces log m ≡ pieces log n → m ≡ n
 same-place log {m} {n} h k e =
     let d : drop m log ≡ drop n log = sym (join-split 10 (drop m log)) ∙ ap (joinOn 10) e ∙ join-split 10 (drop n log) in
     omega (arith, length-drop m log, length-drop n log, ap length d)
 
 -- what is carried from run to run is named by its state and its tally
-pub same-going : {K : Table} {g h : Going} → Ready K g → Ready K h → g .state ≡ h .state → g .tally ≡ h .tally → g ≡ h
+same-going : {K : Table} {g h : Going} → Ready K g → Ready K h → g .state ≡ h .state → g .tally ≡ h .tally → g ≡ h
 same-going r q s c =
     let b = r .busy ∙ ap busyIn s ∙ sym (q .busy) in
     let l = r .listed ∙ ap listedIn s ∙ sym (q .listed) in

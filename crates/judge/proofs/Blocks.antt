@@ -28,7 +28,7 @@ pub may-judge : {c : Tally} {n : ℕ} (may : Bool) → Grows may c n → not may
 may-judge may h y = h .0 (not-false may y)
 
 -- room for more is room for less
-pub roomy-less : {c : Tally} {n m : ℕ} → Roomy c n → m ≤ n → Roomy c m
+roomy-less : {c : Tally} {n m : ℕ} → Roomy c n → m ≤ n → Roomy c m
 roomy-less h l = record {
   steps = omega (arith, h .steps);
   opened = omega (arith, h .opened);
@@ -38,7 +38,7 @@ roomy-less h l = record {
 }
 
 -- a text written ends within the buffer
-pub put-within : {buf text after : List ℕ} {at r : ℕ} → Put buf at text r after → at ≤ length buf → r ≤ length after
+put-within : {buf text after : List ℕ} {at r : ℕ} → Put buf at text r after → at ≤ length buf → r ≤ length after
 put-within {buf} {text} {at = at} p h =
     order (length buf) (at + length text)
     (λ l. omega (arith, put-short l p .0, put-length p))

@@ -170,7 +170,7 @@ module _ (K : Table) where
       (go (next K s x) (tallied K s x c))))
       (λ h. rw h (at-line s c room (line.Is x) p q ps (refusal K s x) e (λ ls. tell-refused K s c x ls h)))
 
-  pub account : (ps : List (List ℕ)) (s : State) (c : Tally) (room : ℕ) → Account K s c room ps (played K s c room ps)
+  account : (ps : List (List ℕ)) (s : State) (c : Tally) (room : ℕ) → Account K s c room ps (played K s c room ps)
   unfolding tell linesIn played
   account [] s c room = at-end s c room [] (λ q qs. refl) (tell-none K s c)
   account ([] ∷ []) s c room = at-end s c room ([] ∷ []) (λ q qs. refl) (tell-none K s c)

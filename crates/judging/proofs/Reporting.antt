@@ -46,7 +46,7 @@ use Rattle.judging.proofs.Accounts.{pending, run-account, run-tells}
 use Rattle.judging.proofs.Bounds.{surely-holds}
 
 -- a text that does not fit is not written
-pub put-over : (buf : List ℕ) (at : ℕ) (text : List ℕ) → length buf < at + length text → Put buf at text at buf
+put-over : (buf : List ℕ) (at : ℕ) (text : List ℕ) → length buf < at + length text → Put buf at text at buf
 put-over buf at text h = record { place = rw (lt-leb _ _ h); bytes = rw (lt-leb _ _ h) }
 
 -- there is room where the test found it
@@ -61,7 +61,7 @@ not-closed (Closed k) (inl e) = absurd (omega arith)
 not-closed (Closed k) (inr e) = absurd (omega arith)
 
 -- and one that stopped at a cycle did
-pub is-closed : {w : Stop} {k : Cycle} → w ≡ Closed k → T (isClosed w)
+is-closed : {w : Stop} {k : Cycle} → w ≡ Closed k → T (isClosed w)
 is-closed c = subst⁻¹ (λ w. T (isClosed w)) c tt
 
 -- no cycle waits for room where it did not

@@ -117,7 +117,7 @@ unfolding stepsOf stopOn
 tell-accepted K s c x ls e = rw e (steps-more K s c x (stepsOf K (next K s x) ls) (stopOn K (next K s x) ls))
 
 -- from the fresh state on, with nothing counted, the `sum` row is the report's
-pub sum-fresh : (K : Table) (xs : List Step) (n : ℕ) → sumAfter K fresh noTally xs n ≡ reportOn K fresh xs n .sum
+sum-fresh : (K : Table) (xs : List Step) (n : ℕ) → sumAfter K fresh noTally xs n ≡ reportOn K fresh xs n .sum
 sum-fresh K xs n =
     let a : (k : ℕ) → 0 + k ≡ k = λ k. omega arith in
     let b : max (max 0 (most 0 xs)) 0 ≡ most 0 xs = omega arith in

@@ -28,7 +28,7 @@ module _ (ns : List ℕ) (i : ℕ) where
   numbers-none h = rw (drop-of-length-le ns h)
 
 -- a line is never empty
-pub numbers-some : (ns : List ℕ) → 0 < length (numbersText ns)
+numbers-some : (ns : List ℕ) → 0 < length (numbersText ns)
 unfolding numbersText
 numbers-some [] = omega arith
 numbers-some (n ∷ ns) = omega arith
@@ -101,7 +101,7 @@ module _ {buf₀ : List ℕ} {at : ℕ} {text : List ℕ} {buf : List ℕ} {plac
       }
 
   -- a byte is written
-  pub writing-byte : {b : ℕ} {q : List ℕ} → Writing buf₀ at text buf place (b ∷ q) → Writing buf₀ at text (set buf place b) (place + 1) q
+  writing-byte : {b : ℕ} {q : List ℕ} → Writing buf₀ at text buf place (b ∷ q) → Writing buf₀ at text (set buf place b) (place + 1) q
   writing-byte {b} w = record {
     kept = length-set buf place b ∙ w .kept;
     wide = omega (arith, w .wide);
@@ -110,7 +110,7 @@ module _ {buf₀ : List ℕ} {at : ℕ} {text : List ℕ} {buf : List ℕ} {plac
   }
 
   -- nothing is left
-  pub writing-end : Writing buf₀ at text buf place [] → Put buf₀ at text place buf
+  writing-end : Writing buf₀ at text buf place [] → Put buf₀ at text place buf
   writing-end w = record { place = rw (le-leb _ _ (w .room)) (omega (arith, w .wide)); bytes = rw (le-leb _ _ (w .room)) (w .same) }
 
 -- the last piece is written
@@ -118,7 +118,7 @@ pub writing-last : {b₀ b₁ b₂ text p : List ℕ} {at place r : ℕ} → Wri
 writing-last {p = p} w z = writing-end (writing-put (rw (append-nil p) w) z)
 
 -- what is left is written in its turn
-pub writing-on : {b₀ b₁ b₂ text left rest : List ℕ} {at p q : ℕ} → Writing b₀ at text b₁ p left → Writing b₁ p left b₂ q rest → Writing b₀ at text b₂ q rest
+writing-on : {b₀ b₁ b₂ text left rest : List ℕ} {at p q : ℕ} → Writing b₀ at text b₁ p left → Writing b₁ p left b₂ q rest → Writing b₀ at text b₂ q rest
 writing-on v w = record { kept = w .kept ∙ v .kept; wide = w .wide ∙ v .wide; room = v .room; same = w .same ∙ v .same }
 
 -- the numbers of a line written, and its newline
@@ -165,9 +165,5 @@ module _ (buf₀ : List ℕ) (at : ℕ) (word ns : List ℕ) (w : ℕ) (l : w �
       line-end h = writing-end (writing-on behind (newline after r ns buf place i v h))
 
 -- a line whose numbers are known
-module _ (word ns known : List ℕ) (e : ns ≡ known) where
-  pub known-width : (w k : ℕ) → k ≡ length word → w ≡ k + length (numbersText ns) → w ≡ length (lineText word known)
-  known-width w k l h = h ∙ rw (l, e, line-length word known)
-
-  pub known-put : (buf : List ℕ) (at r : ℕ) (after : List ℕ) → Put buf at (lineText word ns) r after → Put buf at (lineText word known) r after
-  known-put buf at r after p = rw e at p
+pub known-put : (word ns known : List ℕ) → ns ≡ known → (buf : List ℕ) (at r : ℕ) (after : List ℕ) → Put buf at (lineText word ns) r after → Put buf at (lineText word known) r after
+known-put word ns known e buf at r after p = rw e at p
