@@ -10,7 +10,6 @@ use borrow.Author.Tests.{eq-eqb, ne-eqb}
 use Rattle.text.specs.Set.{bit}
 use Rattle.model.specs.Tests.{need}
 use Rattle.model.specs.Tables.{Table}
-use Rattle.model.specs.Rules.{aged}
 use Rattle.model.specs.declared.Task.{Task}
 use Rattle.model.specs.declared.Act.{Act}
 use Rattle.model.specs.declared.Step.{Step}
@@ -19,7 +18,7 @@ use Rattle.model.specs.declared.Line.{Line}
 use Rattle.model.specs.declared.Line.the-variants.{Bad}
 use Rattle.model.proofs.Step.{the-type}
 use Rattle.log.specs.Lines.{readStep}
-use Rattle.rules.proofs.Answers.{fails-l, fails-r, holds-both, no-by, yes-by, turned-no, turned-yes}
+use Rattle.model.proofs.Asked.{fails-l, fails-r, holds-both, no-by, yes-by, turned-no, turned-yes}
 use Rattle.engine.specs.Turns.{lineAt, smNumber, smBy, inLists, flagged}
 
 -- the line at a place
@@ -29,10 +28,6 @@ module _ (log : List ℕ) (at e : ℕ) where
 
   pub line-is : (r : Line) → (e ≡ length log → ⊥) → r ≡ readStep (take (e - at) (drop at log)) → r ≡ lineAt log at e
   line-is r n h = rw (ne-eqb e (length log) n) h
-
--- an executing clock
-pub older : (b : Bool) (d k : ℕ) → b ≡ true → k + d ≡ aged b d k
-older b d k h = rw h
 
 -- a refusal by a test, and what follows where it holds
 pub refuses : (b : Bool) (n r : ℕ) → b ≡ false → n ≡ need b n r

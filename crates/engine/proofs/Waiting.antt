@@ -16,7 +16,7 @@ use Rattle.model.specs.declared.Step.the-variants.{Wait}
 use Rattle.model.specs.declared.Holder.the-variants.{Manager, Activity}
 use Rattle.model.proofs.Rows.{anew-past}
 use Rattle.model.proofs.Soundness.{holder-in}
-use Rattle.rules.proofs.Answers.{yes-by}
+use Rattle.model.proofs.Asked.{yes-by}
 use Rattle.waits.specs.Waits.{olderActs}
 use Rattle.waits.proofs.Facts.{clock-fits, timer-fits}
 use Rattle.waits.proofs.Holders.{Asks, Asked, asked-none}

@@ -4,10 +4,8 @@ ghost use Prim.Native.Nat.{_-_, _<_, _≤_};
 ghost use lib.ListN.{length};
 ghost use lib.Dec.{T};
 ghost use Rattle.text.specs.Set.{bit};
-ghost use Rattle.model.specs.Limits.{mostTicks, ceiling};
 ghost use Rattle.model.specs.States.{fresh};
 ghost use Rattle.model.specs.Logs.{isWait};
-ghost use Rattle.model.specs.Rules.{managed, aged};
 ghost use Rattle.prepared.specs.Prepared.{tableIn, Prepared};
 ghost use Rattle.rules.specs.Local.{named};
 ghost use Rattle.tally.specs.Tallies.{Roomy};
@@ -109,17 +107,6 @@ fn ticks_of(st: Step) -> u64
     }
 }
 
-// An executing clock grows by d.
-fn older_clock(y: Act, d: u64) -> u64
-    requires { ⌜ (y .clock ≤ mostTicks) × (d ≤ mostTicks) ⌝ }
-    ensures { λ r. ⌜ r ≡ aged (y .executing) d (y .clock) ⌝ }
-{
-    if y.executing {
-        return y.clock + d;
-    }
-    y.clock
-}
-
 // `sm` on its task: 12 for a set outside it, 13 unless the manager waits and the signal is set.
 fn sm_number(rows: &[u32], index: &[u32], t: usize, n: u64, r: u64, x: Task) -> u64
     requires { ⌜ Prepared (now rows) (now index) × (t < tableIn (now rows) (now index) .ntasks) ⌝ }
@@ -163,7 +150,7 @@ fn with_flags(y: Act, run: bool, halt: bool) -> Act
     let mut v = y;
     v.run = run;
     v.halt = halt;
-    rules::act_anew(v)
+    records::act_anew(v)
 }
 
 // An activity of an `sm`'s task, put into N and R as its sets say.
@@ -175,19 +162,6 @@ fn flag(st: Step, a: usize, y: Act) -> Act
         return y;
     };
     with_flags(y, has_bit(n, a), has_bit(r, a))
-}
-
-// "Signal cleared, managing, .. cycle number up by 1, open date = date."
-fn opened_task(date: u64, x: Task) -> Task
-    requires { ⌜ x .cycle ≤ ceiling ⌝ }
-    ensures { λ r. ⌜ r ≡ managed date x ⌝ }
-{
-    let mut u = x;
-    u.signal = false;
-    u.managing = true;
-    u.cycle = x.cycle + 1;
-    u.opened = date;
-    rules::task_anew(u)
 }
 
 fn left_at(
@@ -251,11 +225,11 @@ pub fn run(
                 let x = s.tasks[k];
                 let h = x.holder;
                 let timely = waits::timer_room(rows, index, d, k, x.timer);
-                room = rules::both(room, timely);
+                room = records::both(room, timely);
                 k += 1;
                 match h {
                     Holder::Manager => {
-                        if rules::either(x.managing, x.signal) {
+                        if records::either(x.managing, x.signal) {
                             return left_at(s, busy, listed, c, at, filled, Stop::Refused(16));
                         }
                     }
@@ -264,7 +238,7 @@ pub fn run(
                         if waits::act_hinders(rows, index, &busy, y) {
                             return left_at(s, busy, listed, c, at, filled, Stop::Refused(16));
                         }
-                        room = rules::both(room, waits::act_room(rows, index, d, y));
+                        room = records::both(room, waits::act_room(rows, index, d, y));
                     }
                 }
             }
@@ -283,7 +257,7 @@ pub fn run(
                     Holder::Manager => {}
                     Holder::Activity(a) => {
                         let y = s.acts[a];
-                        let old = older_clock(y, d);
+                        let old = records::older_clock(y, d);
                         s.acts[a].clock = old;
                     }
                 }
@@ -312,7 +286,7 @@ pub fn run(
                 listed[a] = waits::listed_of(v);
                 a += 1;
             }
-            let u = opened_task(s.date, x);
+            let u = records::opened_task(s.date, x);
             s.tasks[ti] = u;
             c = tally::after_sm(c);
             at = e + 1;

@@ -82,7 +82,7 @@ fn sum_numbers(rows: &[u32], index: &[u32], g: Going, refusal: u64) -> [u64; 9]
     n[3] = c.kept;
     n[4] = c.dropped;
     n[5] = count_managing(rows, index, s);
-    n[6] = rules::larger(c.most, c.since);
+    n[6] = records::larger(c.most, c.since);
     n[7] = refusal;
     n[8] = line_of(refusal, c.steps);
     n

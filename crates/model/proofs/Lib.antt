@@ -1,4 +1,5 @@
 pub mod Tests
+pub mod Asked
 pub mod Rows
 pub mod Formed
 pub mod Soundness

@@ -2,5 +2,3 @@ pub mod Answers
 pub mod Places
 pub mod Named
 pub mod Steps
-pub mod Lent
-pub mod Unique

@@ -13,15 +13,13 @@ use Rattle.model.specs.declared.Place.the-variants.{Ether, Codel}
 use Rattle.model.specs.declared.Step.{Step}
 use Rattle.model.specs.declared.Step.the-variants.{St, Lm, Ia, Ea, Cx, Fa}
 use Rattle.model.proofs.Tests.{and-l, and-r}
+use Rattle.model.proofs.Asked.{known-codel}
 use Rattle.model.proofs.StepsKeep.{first-at}
 use Rattle.rules.specs.Local.{taskLocal, local, named, taskIn}
 use Rattle.rules.specs.declared.TaskTold.{TaskTold}
 use Rattle.rules.specs.declared.Told.{Told}
 
--- the codel of a known place, and an activity's stop
-pub known-codel : (K : Table) (p : Place) (c : ℕ) → T (known K p) → p ≡ Codel c → c < K .ncodels
-known-codel K p c h e = ltb→lt c (K .ncodels) (subst (λ q. T (known K q)) e h)
-
+-- the codel of an activity's stop has a row
 pub stop-codel : (K : Table) (a : ℕ) (p : Place) (c : ℕ) → p ≡ stopOf K a → p ≡ Codel c → c < K .ncodels
 stop-codel K a p c e f = first-at (K .ncodels) (isStop K a) c (sym e ∙ f) .0
 

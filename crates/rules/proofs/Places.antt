@@ -16,9 +16,6 @@ module _ (K : Table) (p : Place) (e : p ≡ Ether) where
   ether-start y a c r i = rw e i
 
 -- at a codel
-pub codel-clock : (p : Place) (d : ℕ) (b : Bool) → p ≡ Codel d → b ≡ (isEther p or b)
-codel-clock p d b e = rw e
-
 module _ (K : Table) (p : Place) (d : ℕ) (e : p ≡ Codel d) where
   pub codel-again : (y r : Act) (b : Bool) → b ≡ false → r ≡ entered K d y → r ≡ again K b p y
   codel-again y r b h i = rw (h, e) i
@@ -45,4 +42,4 @@ module _ (K : Table) (p : Place) (d : ℕ) (e : p ≡ Codel d) where
     pub codel-end : (r : Bool) → b ≡ false → q ≡ Ether → r ≡ hasEdge K d Ether false → r ≡ faAllowed K p q
     codel-end r h f j = rw (e, ← i, h, f) j
 
-pub ruleset places = (ether-start, codel-clock, codel-again, codel-safe, codel-shared, codel-enter, codel-idle, codel-pause, codel-other, codel-end)
+pub ruleset places = (ether-start, codel-again, codel-safe, codel-shared, codel-enter, codel-idle, codel-pause, codel-other, codel-end)

@@ -1,13 +1,12 @@
 // The steps on the records that they touch: a task's, or a task's and an activity's, go in by value and come back.
 ghost use mathlib.Core.Path.{_≡_};
-ghost use mathlib.Core.Bool.{not};
-ghost use Prim.Native.Nat.{max, _<_, _≤_};
-ghost use lib.Dec.{T, leb, ltb};
-ghost use Rattle.model.specs.Tests.{_and_, _or_};
+ghost use Prim.Native.Nat.{_<_, _≤_};
+ghost use lib.Dec.{T, ltb};
+ghost use Rattle.model.specs.Tests.{_and_};
 ghost use Rattle.model.specs.Limits.{ceiling};
-ghost use Rattle.model.specs.Tables.{known, isEther};
-ghost use Rattle.model.specs.States.{heldBy, byManager, stands};
-ghost use Rattle.model.specs.Rules.{entered, rested, held, signalled, again, outOfR, eaAllowed, begun, faAllowed, closed};
+ghost use Rattle.model.specs.Tables.{known};
+ghost use Rattle.model.specs.States.{stands};
+ghost use Rattle.model.specs.Rules.{entered, again, eaAllowed, faAllowed};
 ghost use Rattle.prepared.specs.Prepared.{tableIn, Prepared};
 ghost use Rattle.rules.specs.Local.{toldTask, told, stLocal, fmLocal, taskLocal, lmLocal, iaLocal, eaLocal, cxLocal, faLocal, local, named, taskIn, actIn, ofTask};
 use model::Act;
@@ -59,191 +58,22 @@ fn enter_again(rows: &[u32], index: &[u32], y: Act) -> Act
     }
 }
 
-// The larger of two numbers.
-pub fn larger(a: u64, b: u64) -> u64
-    ensures { λ r. ⌜ r ≡ max a b ⌝ }
-{
-    if a < b {
-        return b;
-    }
-    a
-}
-
-// A task's record with another holder, its longest at least k.
-fn with_holder(x: Task, h: Holder, k: u64) -> Task
-    ensures { λ r. ⌜ r ≡ held h k x ⌝ }
-{
-    let l = larger(x.longest, k);
-    Task {
-        timer: x.timer,
-        signal: x.signal,
-        managing: x.managing,
-        holder: h,
-        cycle: x.cycle,
-        opened: x.opened,
-        missed: x.missed,
-        longest: l,
-    }
-}
-
-// "Give back": an activity's record at a place.
-fn at_rest(p: Place) -> Act
-    ensures { λ r. ⌜ r ≡ rested p ⌝ }
-{
-    Act {
-        place: p,
-        executing: false,
-        clock: 0,
-        run: false,
-        halt: false,
-    }
-}
-
-// "Timer 0, signal set; if it was set already while managing, missed grows by 1."
-fn fired(x: Task) -> Task
-    requires { ⌜ x .missed ≤ ceiling ⌝ }
-    ensures { λ r. ⌜ r ≡ signalled x ⌝ }
-{
-    let mut u = x;
-    u.timer = 0;
-    u.signal = true;
-    if x.signal {
-        if x.managing {
-            u.missed = x.missed + 1;
-            return u;
-        }
-        return u;
-    }
-    u
-}
-
-// "Timer 0, signal set; if it was set already while managing, missed grows by 1", on a task's record that is lent.
-fn fire(x: &mut Task)
-    requires { ⌜ now x .missed ≤ ceiling ⌝ }
-    ensures { λ _. ⌜ now (x .exit) ≡ signalled (now (x .entry)) ⌝ }
-{
-    *x = fired(*x);
-}
-
-// A record by value, lent to `fire` and handed back: callers need no reference to a record.
-fn signalled_task(x: Task) -> Task
-    requires { ⌜ x .missed ≤ ceiling ⌝ }
-    ensures { λ r. ⌜ r ≡ signalled x ⌝ }
-{
-    let mut u = x;
-    fire(&mut u);
-    u
-}
-
-// "Waiting; the cycle closes; open date, missed and longest become 0."
-fn finished(x: Task) -> Task
-    ensures { λ r. ⌜ r ≡ closed x ⌝ }
-{
-    let mut u = x;
-    u.managing = false;
-    u.opened = 0;
-    u.missed = 0;
-    u.longest = 0;
-    u
-}
-
-fn holder_anew(h: Holder) -> Holder
-    ensures { λ r. ⌜ r ≡ h ⌝ }
-{
-    match h {
-        Holder::Manager => Holder::Manager,
-        Holder::Activity(a) => Holder::Activity(a),
-    }
-}
-
-fn place_anew(p: Place) -> Place
-    ensures { λ r. ⌜ r ≡ p ⌝ }
-{
-    match p {
-        Place::Ether => Place::Ether,
-        Place::Codel(c) => Place::Codel(c),
-    }
-}
-
-// A task's record made anew, field by field: a copy would also carry the bytes that lie between the fields.
-pub fn task_anew(x: Task) -> Task
-    ensures { λ r. ⌜ r ≡ x ⌝ }
-{
-    let g = x.holder;
-    let h = holder_anew(g);
-    Task {
-        timer: x.timer,
-        signal: x.signal,
-        managing: x.managing,
-        holder: h,
-        cycle: x.cycle,
-        opened: x.opened,
-        missed: x.missed,
-        longest: x.longest,
-    }
-}
-
-// The same for an activity's record.
-pub fn act_anew(y: Act) -> Act
-    ensures { λ r. ⌜ r ≡ y ⌝ }
-{
-    let q = y.place;
-    let p = place_anew(q);
-    Act {
-        place: p,
-        executing: y.executing,
-        clock: y.clock,
-        run: y.run,
-        halt: y.halt,
-    }
-}
-
 fn task_answer(n: u64, x: Task) -> TaskTold
     ensures { λ r. ⌜ r ≡ toldTask n x ⌝ }
 {
-    let u = task_anew(x);
+    let u = records::task_anew(x);
     TaskTold { number: n, task: u }
 }
 
 fn answer(n: u64, x: Task, y: Act) -> Told
     ensures { λ r. ⌜ r ≡ told n x y ⌝ }
 {
-    let u = task_anew(x);
-    let v = act_anew(y);
+    let u = records::task_anew(x);
+    let v = records::act_anew(y);
     Told {
         number: n,
         task: u,
         act: v,
-    }
-}
-
-// Does an activity hold?
-pub fn is_held(h: Holder, a: usize) -> bool
-    ensures { λ r. ⌜ r ≡ heldBy h a ⌝ }
-{
-    match h {
-        Holder::Manager => false,
-        Holder::Activity(b) => b == a,
-    }
-}
-
-// "A holds and is not in R"
-fn may_run(h: Holder, a: usize, halt: bool) -> bool
-    ensures { λ r. ⌜ r ≡ heldBy h a and not halt ⌝ }
-{
-    if is_held(h, a) {
-        return !halt;
-    }
-    false
-}
-
-// Does the manager hold?
-pub fn is_manager(h: Holder) -> bool
-    ensures { λ r. ⌜ r ≡ byManager h ⌝ }
-{
-    match h {
-        Holder::Manager => true,
-        Holder::Activity(_) => false,
     }
 }
 
@@ -254,7 +84,7 @@ fn do_st(rows: &[u32], index: &[u32], t: usize, x: Task) -> TaskTold
     if x.timer != prepared::period_of(rows, index, t) {
         return task_answer(14, x);
     }
-    let u = signalled_task(x);
+    let u = records::signalled_task(x);
     task_answer(0, u)
 }
 
@@ -265,13 +95,13 @@ fn do_fm(empty: bool, x: Task) -> TaskTold
         return task_answer(13, x);
     }
     let h = x.holder;
-    if !is_manager(h) {
+    if !records::is_manager(h) {
         return task_answer(13, x);
     }
     if !empty {
         return task_answer(13, x);
     }
-    let u = finished(x);
+    let u = records::finished(x);
     task_answer(0, u)
 }
 
@@ -301,46 +131,18 @@ fn do_lm(rows: &[u32], index: &[u32], t: usize, a: usize, x: Task, y: Act) -> To
         return answer(13, x, y);
     }
     let h = x.holder;
-    if !is_manager(h) {
+    if !records::is_manager(h) {
         return answer(13, x, y);
     }
     if prepared::task_of(rows, index, a) != t {
         return answer(13, x, y);
     }
-    if !either(y.run, y.halt) {
+    if !records::either(y.run, y.halt) {
         return answer(13, x, y);
     }
-    let u = with_holder(x, Holder::Activity(a), 0);
+    let u = records::with_holder(x, Holder::Activity(a), 0);
     let v = enter_again(rows, index, y);
     answer(0, u, v)
-}
-
-// Both of the two.
-pub fn both(a: bool, b: bool) -> bool
-    ensures { λ r. ⌜ r ≡ a and b ⌝ }
-{
-    if a {
-        return b;
-    }
-    false
-}
-
-// One of the two, or both.
-pub fn either(a: bool, b: bool) -> bool
-    ensures { λ r. ⌜ r ≡ a or b ⌝ }
-{
-    if a {
-        return true;
-    }
-    b
-}
-
-fn out_of_r(y: Act) -> Act
-    ensures { λ r. ⌜ r ≡ outOfR y ⌝ }
-{
-    let mut v = y;
-    v.halt = false;
-    v
 }
 
 fn do_ia(rows: &[u32], index: &[u32], a: usize, x: Task, y: Act) -> Told
@@ -348,7 +150,7 @@ fn do_ia(rows: &[u32], index: &[u32], a: usize, x: Task, y: Act) -> Told
     ensures { λ r. ⌜ r ≡ iaLocal (tableIn (now (rows .entry)) (now (index .entry))) a x y ⌝ }
 {
     let h = x.holder;
-    if !is_held(h, a) {
+    if !records::is_held(h, a) {
         return answer(13, x, y);
     }
     if !y.halt {
@@ -357,12 +159,12 @@ fn do_ia(rows: &[u32], index: &[u32], a: usize, x: Task, y: Act) -> Told
     let stop = prepared::stop_of(rows, index, a);
     match stop {
         Place::Ether => {
-            let u = with_holder(x, Holder::Manager, 0);
-            let v = at_rest(Place::Ether);
+            let u = records::with_holder(x, Holder::Manager, 0);
+            let v = records::at_rest(Place::Ether);
             answer(0, u, v)
         }
         Place::Codel(c) => {
-            let v = enter(rows, index, c, out_of_r(y));
+            let v = enter(rows, index, c, records::out_of_r(y));
             answer(0, x, v)
         }
     }
@@ -385,32 +187,21 @@ fn may_enter(rows: &[u32], index: &[u32], a: usize, c: usize, y: Act) -> bool
     }
 }
 
-// "`ea` from a codel, and `fa`, need a clock of at least 1"
-fn may_end(y: Act) -> bool
-    ensures { λ r. ⌜ r ≡ isEther (y .place) or leb 1 (y .clock) ⌝ }
-{
-    let p = y.place;
-    match p {
-        Place::Ether => true,
-        Place::Codel(_) => 1 <= y.clock,
-    }
-}
-
 fn do_ea(rows: &[u32], index: &[u32], a: usize, c: usize, x: Task, y: Act) -> Told
     requires { ⌜ Prepared (now rows) (now index) × (a < tableIn (now rows) (now index) .nacts) × (c < tableIn (now rows) (now index) .ncodels) × T (known (tableIn (now rows) (now index)) (y .place)) ⌝ }
     ensures { λ r. ⌜ r ≡ eaLocal (tableIn (now (rows .entry)) (now (index .entry))) a c x y ⌝ }
 {
     let h = x.holder;
-    if !may_run(h, a, y.halt) {
+    if !records::may_run(h, a, y.halt) {
         return answer(13, x, y);
     }
     if !may_enter(rows, index, a, c, y) {
         return answer(13, x, y);
     }
-    if !may_end(y) {
+    if !records::may_end(y) {
         return answer(14, x, y);
     }
-    let u = with_holder(x, h, y.clock);
+    let u = records::with_holder(x, h, y.clock);
     let v = enter(rows, index, c, y);
     answer(0, u, v)
 }
@@ -432,21 +223,12 @@ fn is_standing(rows: &[u32], index: &[u32], y: Act) -> bool
     }
 }
 
-fn started(y: Act) -> Act
-    ensures { λ r. ⌜ r ≡ begun y ⌝ }
-{
-    let mut v = y;
-    v.executing = true;
-    v.clock = 0;
-    v
-}
-
 fn do_cx(rows: &[u32], index: &[u32], a: usize, clear: bool, x: Task, y: Act) -> Told
     requires { ⌜ Prepared (now rows) (now index) × T (known (tableIn (now rows) (now index)) (y .place)) ⌝ }
     ensures { λ r. ⌜ r ≡ cxLocal (tableIn (now (rows .entry)) (now (index .entry))) a clear x y ⌝ }
 {
     let h = x.holder;
-    if !may_run(h, a, y.halt) {
+    if !records::may_run(h, a, y.halt) {
         return answer(13, x, y);
     }
     if !is_standing(rows, index, y) {
@@ -455,7 +237,7 @@ fn do_cx(rows: &[u32], index: &[u32], a: usize, clear: bool, x: Task, y: Act) ->
     if !clear {
         return answer(15, x, y);
     }
-    let v = started(y);
+    let v = records::started(y);
     answer(0, x, v)
 }
 
@@ -483,7 +265,7 @@ fn do_fa(rows: &[u32], index: &[u32], a: usize, p: Place, x: Task, y: Act) -> To
     ensures { λ r. ⌜ r ≡ faLocal (tableIn (now (rows .entry)) (now (index .entry))) a p x y ⌝ }
 {
     let h = x.holder;
-    if !is_held(h, a) {
+    if !records::is_held(h, a) {
         return answer(13, x, y);
     }
     if !y.executing {
@@ -496,8 +278,8 @@ fn do_fa(rows: &[u32], index: &[u32], a: usize, p: Place, x: Task, y: Act) -> To
     if y.clock < 1 {
         return answer(14, x, y);
     }
-    let u = with_holder(x, Holder::Manager, y.clock);
-    let v = at_rest(p);
+    let u = records::with_holder(x, Holder::Manager, y.clock);
+    let v = records::at_rest(p);
     answer(0, u, v)
 }
 

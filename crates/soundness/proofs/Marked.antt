@@ -19,7 +19,7 @@ use Rattle.model.proofs.Tests.{and-l, some-mk}
 use Rattle.model.proofs.Formed.{Formed}
 use Rattle.table.proofs.Marks.{or-false, marks-set}
 use Rattle.prepared.specs.Prepared.{pauseOf}
-use Rattle.rules.proofs.Named.{known-codel}
+use Rattle.model.proofs.Asked.{known-codel}
 use Rattle.soundness.specs.Marks.{markAt, pauseMarks}
 
 module _ (K : Table) where

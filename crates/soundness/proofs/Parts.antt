@@ -8,7 +8,7 @@ use borrow.Author.Tests.{lt-ltb, le-ltb, le-leb, lt-leb, eq-eqb, ne-eqb, leb-tru
 use Rattle.text.proofs.Picks.{false-true}
 use Rattle.model.specs.Tests.{_and_, _or_, _implies_}
 use Rattle.table.proofs.Tests.{agree}
-use Rattle.rules.proofs.Answers.{no-by, yes-by}
+use Rattle.model.proofs.Asked.{no-by, yes-by}
 
 -- where the first part fails, so do they all; where it holds, the others decide
 pub stops : (a b : Bool) → a ≡ false → false ≡ (a and b)

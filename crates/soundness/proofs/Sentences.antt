@@ -17,7 +17,7 @@ use Rattle.model.specs.declared.Place.the-variants.{Ether, Codel}
 use Rattle.model.specs.declared.Holder.{Holder}
 use Rattle.model.specs.declared.Holder.the-variants.{Activity}
 use Rattle.model.proofs.Tests.{true-T, and-l}
-use Rattle.rules.proofs.Answers.{yes-by}
+use Rattle.model.proofs.Asked.{yes-by}
 use Rattle.soundness.proofs.Parts.{row-says, no-row}
 
 -- "the holder is the manager or one of the task's activities"

@@ -78,7 +78,7 @@ fn waiting_ok(x: Task) -> bool
         return true;
     }
     let h = x.holder;
-    if !rules::is_manager(h) {
+    if !records::is_manager(h) {
         return false;
     }
     if x.opened != 0 {
@@ -174,7 +174,7 @@ fn rests_unless_running(rows: &[u32], index: &[u32], pauses: &[u8], holds: bool,
     requires { ⌜ Prepared (now rows) (now index) × T (known (tableIn (now rows) (now index)) (y .place)) × (now pauses ≡ pauseMarks (tableIn (now rows) (now index)) (tableIn (now rows) (now index) .nedges)) ⌝ }
     ensures { λ r. ⌜ r ≡ restsUnlessRunning (tableIn (now (rows .entry)) (now (index .entry))) holds (y .halt) (y .place) (y .executing) ⌝ }
 {
-    if rules::both(holds, !y.halt) {
+    if records::both(holds, !y.halt) {
         return true;
     }
     let p = y.place;
@@ -189,7 +189,7 @@ fn executes_when_safe(rows: &[u32], index: &[u32], holds: bool, y: Act) -> bool
     requires { ⌜ Prepared (now rows) (now index) × T (known (tableIn (now rows) (now index)) (y .place)) ⌝ }
     ensures { λ r. ⌜ r ≡ executesWhenSafe (tableIn (now (rows .entry)) (now (index .entry))) holds (y .halt) (y .place) (y .executing) ⌝ }
 {
-    if !rules::both(holds, !y.halt) {
+    if !records::both(holds, !y.halt) {
         return true;
     }
     let p = y.place;
@@ -218,7 +218,7 @@ fn clock_ok(rows: &[u32], index: &[u32], y: Act) -> bool
 fn sets_while_managing(managing: bool, y: Act) -> bool
     ensures { λ r. ⌜ r ≡ setsWhileManaging managing (y .run) (y .halt) ⌝ }
 {
-    implied(rules::either(y.run, y.halt), managing)
+    implied(records::either(y.run, y.halt), managing)
 }
 
 // "a holder at ether is in N or R"
@@ -227,8 +227,8 @@ fn listed_at_ether(holds: bool, y: Act) -> bool
 {
     let p = y.place;
     implied(
-        rules::both(holds, is_ether(p)),
-        rules::either(y.run, y.halt),
+        records::both(holds, is_ether(p)),
+        records::either(y.run, y.halt),
     )
 }
 
@@ -273,7 +273,7 @@ fn fine_act(rows: &[u32], index: &[u32], pauses: &[u8], a: usize, x: Task, y: Ac
         return false;
     }
     let h = x.holder;
-    let holds = rules::is_held(h, a);
+    let holds = records::is_held(h, a);
     fine_place(rows, index, pauses, holds, y)
 }
 
@@ -364,11 +364,11 @@ fn is_fresh_task(x: Task) -> bool
     if x.timer != 0 {
         return false;
     }
-    if rules::either(x.signal, x.managing) {
+    if records::either(x.signal, x.managing) {
         return false;
     }
     let h = x.holder;
-    if !rules::is_manager(h) {
+    if !records::is_manager(h) {
         return false;
     }
     if x.cycle != 0 {
@@ -396,7 +396,7 @@ fn is_fresh_act(y: Act) -> bool
     if y.clock != 0 {
         return false;
     }
-    !rules::either(y.run, y.halt)
+    !records::either(y.run, y.halt)
 }
 
 // Are the task rows past the first n fresh?

@@ -19,6 +19,7 @@ use Rattle.model.specs.Limits.{mostTasks, mostActs, mostCodels, mostEdges, most
 use Rattle.model.specs.Tables.{known, targetOf}
 use Rattle.model.specs.Tables as model
 use Rattle.model.specs.Rows.{taskFault, actFault, codelFault, edgeFault, mutexFault, placeBelow, edgeBelow, targetOk, lastFault}
+use Rattle.model.proofs.Asked.{no-by, yes-by}
 use Rattle.table.specs.Tables.{slots, made, slotOf, etherSlot, narrowed, widened, shown, fieldOf, addRow, pairBelow, tableOf}
 use Rattle.table.specs.Checks.{inPlace, kindFault, rowFault, verdictOf, refused, onFault, closed}
 use Rattle.table.specs.Marks.{kindMark, markOf, marked, Building}
@@ -168,13 +169,6 @@ full n m k e h = le-ltb n k (omega arith)
 roomy : (n m k : ℕ) → m ≡ k → n < m → ltb n k ≡ true
 roomy n m k e h = lt-ltb n k (omega arith)
 
--- a test that the code asked for passed, or did not
-yes : (t : Bool) {b : Bool} → t ≡ b → not t ≡ false → b ≡ true
-yes t e h = sym e ∙ not-false t h
-
-no : (t : Bool) {b : Bool} → t ≡ b → not t ≡ true → b ≡ false
-no t e h = sym e ∙ not-true t h
-
 -- a task's refusals
 module _ (n a b m : ℕ) (e : m ≡ mostOf 0) where
   -- 3: one row too many
@@ -186,18 +180,18 @@ module _ (n a b m : ℕ) (e : m ≡ mostOf 0) where
     -- 3: the period is out of range
     pub task-period : not p ≡ true → 3 ≡ taskFault n a b
     unfolding mostOf
-    task-period h = rw (roomy n m mostTasks e room, no p f h)
+    task-period h = rw (roomy n m mostTasks e room, no-by p _ f h)
 
     module _ (y : not p ≡ false) (q : Bool) (g : q ≡ inRange b) where
       -- 3: keep is out of range
       pub task-keep : not q ≡ true → 3 ≡ taskFault n a b
       unfolding mostOf
-      task-keep h = rw (roomy n m mostTasks e room, yes p f y, no q g h)
+      task-keep h = rw (roomy n m mostTasks e room, yes-by p _ f y, no-by q _ g h)
 
       -- nothing is refused
       pub task-fine : not q ≡ false → 0 ≡ taskFault n a b
       unfolding mostOf
-      task-fine h = rw (roomy n m mostTasks e room, yes p f y, yes q g h)
+      task-fine h = rw (roomy n m mostTasks e room, yes-by p _ f y, yes-by q _ g h)
 
 refuses : (f : ℕ) → (f ≡ 0 → ⊥) → Refused f ≡ verdictOf f
 refuses zero h = absurd (h refl)
@@ -212,24 +206,24 @@ module _ (counts rows : List ℕ) where
     -- 2: its task falls
     pub act-falls : not o ≡ true → 2 ≡ actFault K n x
     unfolding tableOf
-    act-falls h = rw (no o e h)
+    act-falls h = rw (no-by o _ e h)
 
     module _ (h : not o ≡ false) (m : ℕ) (q : m ≡ mostOf 1) where
       -- 3: one row too many
       pub act-full : m ≤ n → 3 ≡ actFault K n x
       unfolding tableOf mostOf
-      act-full l = rw (yes o e h, full n m mostActs q l)
+      act-full l = rw (yes-by o _ e h, full n m mostActs q l)
 
       module _ (room : n < m) where
         -- 4: its task has no row
         pub act-stray : getD counts 0 0 ≤ x → 4 ≡ actFault K n x
         unfolding tableOf mostOf
-        act-stray l = rw (yes o e h, roomy n m mostActs q room, le-ltb _ _ l)
+        act-stray l = rw (yes-by o _ e h, roomy n m mostActs q room, le-ltb _ _ l)
 
         -- nothing is refused
         pub act-fine : x < getD counts 0 0 → 0 ≡ actFault K n x
         unfolding tableOf mostOf
-        act-fine l = rw (yes o e h, roomy n m mostActs q room, lt-ltb _ _ l)
+        act-fine l = rw (yes-by o _ e h, roomy n m mostActs q room, lt-ltb _ _ l)
 
   -- a codel's refusals
   module _ (x z d : ℕ) (o : Bool) (e : o ≡ after (getD counts 2 0) (λ i. leb (fieldOf rows 2 i 0) x)) where
@@ -239,25 +233,25 @@ module _ (counts rows : List ℕ) where
     -- 2: its activity falls
     pub codel-falls : not o ≡ true → 2 ≡ Codel
     unfolding tableOf
-    codel-falls h = rw (no o e h)
+    codel-falls h = rw (no-by o _ e h)
 
     module _ (h : not o ≡ false) (m : ℕ) (q : m ≡ mostOf 2) where
       -- 3: one row too many
       pub codel-full : m ≤ getD counts 2 0 → 3 ≡ Codel
       unfolding tableOf mostOf
-      codel-full l = rw (yes o e h, full (getD counts 2 0) m mostCodels q l)
+      codel-full l = rw (yes-by o _ e h, full (getD counts 2 0) m mostCodels q l)
 
       module _ (room : getD counts 2 0 < m) (p : Bool) (f : p ≡ inRange d) where
         -- 3: the limit is out of range
         pub codel-limit : not p ≡ true → 3 ≡ Codel
         unfolding tableOf mostOf
-        codel-limit l = rw (yes o e h, roomy (getD counts 2 0) m mostCodels q room, no p f l)
+        codel-limit l = rw (yes-by o _ e h, roomy (getD counts 2 0) m mostCodels q room, no-by p _ f l)
 
         module _ (y : not p ≡ false) where
           -- 4: its activity has no row
           pub codel-stray : getD counts 1 0 ≤ x → 4 ≡ Codel
           unfolding tableOf mostOf
-          codel-stray l = rw (yes o e h, roomy (getD counts 2 0) m mostCodels q room, yes p f y, le-ltb _ _ l)
+          codel-stray l = rw (yes-by o _ e h, roomy (getD counts 2 0) m mostCodels q room, yes-by p _ f y, le-ltb _ _ l)
 
           module _ (l : x < getD counts 1 0) (marks : List ℕ) (b : Building (made counts rows) marks) (s : Bool)
               (g : s ≡ (ltb z 2 and marked marks (kindMark z x))) where
@@ -270,12 +264,12 @@ module _ (counts rows : List ℕ) where
             -- 5: a second start or stop
             pub codel-second : s ≡ true → 5 ≡ Codel
             unfolding tableOf mostOf
-            codel-second k = rw (yes o e h, roomy (getD counts 2 0) m mostCodels q room, yes p f y, lt-ltb _ _ l, alone, k)
+            codel-second k = rw (yes-by o _ e h, roomy (getD counts 2 0) m mostCodels q room, yes-by p _ f y, lt-ltb _ _ l, alone, k)
 
             -- nothing is refused
             pub codel-fine : s ≡ false → 0 ≡ Codel
             unfolding tableOf mostOf
-            codel-fine k = rw (yes o e h, roomy (getD counts 2 0) m mostCodels q room, yes p f y, lt-ltb _ _ l, alone, k)
+            codel-fine k = rw (yes-by o _ e h, roomy (getD counts 2 0) m mostCodels q room, yes-by p _ f y, lt-ltb _ _ l, alone, k)
 
   -- where an edge may lead
   module _ (x y z : ℕ) where
@@ -325,36 +319,36 @@ module _ (counts rows : List ℕ) where
 
     -- 2: the pair does not rise
     pub edge-falls : not o ≡ true → 2 ≡ Edge
-    edge-falls h = rw (no o ordered h)
+    edge-falls h = rw (no-by o _ ordered h)
 
     module _ (h : not o ≡ false) (m : ℕ) (q : m ≡ mostOf 3) where
       -- 3: one row too many
       pub edge-full : m ≤ getD counts 3 0 → 3 ≡ Edge
       unfolding mostOf
-      edge-full l = rw (yes o ordered h, full (getD counts 3 0) m mostEdges q l)
+      edge-full l = rw (yes-by o _ ordered h, full (getD counts 3 0) m mostEdges q l)
 
       module _ (room : getD counts 3 0 < m) where
         -- 4: its codel has no row
         pub edge-stray : getD counts 2 0 ≤ x → 4 ≡ Edge
         unfolding tableOf mostOf
-        edge-stray l = rw (yes o ordered h, roomy (getD counts 3 0) m mostEdges q room, le-ltb _ _ l)
+        edge-stray l = rw (yes-by o _ ordered h, roomy (getD counts 3 0) m mostEdges q room, le-ltb _ _ l)
 
         module _ (l : x < getD counts 2 0) (p : Bool) (f : p ≡ (eqb y etherValue or ltb y (getD counts 2 0))) where
           -- 4: its target has no row
           pub edge-lost : not p ≡ true → 4 ≡ Edge
           unfolding tableOf mostOf
-          edge-lost k = rw (yes o ordered h, roomy (getD counts 3 0) m mostEdges q room, lt-ltb _ _ l, no p (f ∙ known-is y) k)
+          edge-lost k = rw (yes-by o _ ordered h, roomy (getD counts 3 0) m mostEdges q room, lt-ltb _ _ l, no-by p _ (f ∙ known-is y) k)
 
           module _ (k : not p ≡ false) (s : Bool) (g : s ≡ targetOk K x (targetOf y) (eqb z 1)) where
             -- 5: it may not lead there
             pub edge-bad : not s ≡ true → 5 ≡ Edge
             unfolding tableOf mostOf
-            edge-bad b = rw (yes o ordered h, roomy (getD counts 3 0) m mostEdges q room, lt-ltb _ _ l, yes p (f ∙ known-is y) k, no s g b)
+            edge-bad b = rw (yes-by o _ ordered h, roomy (getD counts 3 0) m mostEdges q room, lt-ltb _ _ l, yes-by p _ (f ∙ known-is y) k, no-by s _ g b)
 
             -- nothing is refused
             pub edge-fine : not s ≡ false → 0 ≡ Edge
             unfolding tableOf mostOf
-            edge-fine b = rw (yes o ordered h, roomy (getD counts 3 0) m mostEdges q room, lt-ltb _ _ l, yes p (f ∙ known-is y) k, yes s g b)
+            edge-fine b = rw (yes-by o _ ordered h, roomy (getD counts 3 0) m mostEdges q room, lt-ltb _ _ l, yes-by p _ (f ∙ known-is y) k, yes-by s _ g b)
 
   -- a mutex's refusals
   module _ (x y : ℕ) where
@@ -369,37 +363,37 @@ module _ (counts rows : List ℕ) where
       -- 2: the pair does not rise
       pub mutex-falls : not o ≡ true → 2 ≡ Mutex
       unfolding tableOf
-      mutex-falls h = rw (le-leb _ _ a, no o e h)
+      mutex-falls h = rw (le-leb _ _ a, no-by o _ e h)
 
       module _ (h : not o ≡ false) (m : ℕ) (q : m ≡ mostOf 4) where
         -- 3: one row too many
         pub mutex-full : m ≤ getD counts 4 0 → 3 ≡ Mutex
         unfolding tableOf mostOf
-        mutex-full l = rw (le-leb _ _ a, yes o e h, full (getD counts 4 0) m mostMutexes q l)
+        mutex-full l = rw (le-leb _ _ a, yes-by o _ e h, full (getD counts 4 0) m mostMutexes q l)
 
         module _ (room : getD counts 4 0 < m) where
           -- 4: its first codel has no row
           pub mutex-stray : getD counts 2 0 ≤ x → 4 ≡ Mutex
           unfolding tableOf mostOf
-          mutex-stray l = rw (le-leb _ _ a, yes o e h, roomy (getD counts 4 0) m mostMutexes q room, le-ltb _ _ l)
+          mutex-stray l = rw (le-leb _ _ a, yes-by o _ e h, roomy (getD counts 4 0) m mostMutexes q room, le-ltb _ _ l)
 
           module _ (l : x < getD counts 2 0) where
             -- 4: its second codel has no row
             pub mutex-lost : getD counts 2 0 ≤ y → 4 ≡ Mutex
             unfolding tableOf mostOf
-            mutex-lost k = rw (le-leb _ _ a, yes o e h, roomy (getD counts 4 0) m mostMutexes q room, lt-ltb _ _ l, le-ltb _ _ k)
+            mutex-lost k = rw (le-leb _ _ a, yes-by o _ e h, roomy (getD counts 4 0) m mostMutexes q room, lt-ltb _ _ l, le-ltb _ _ k)
 
             module _ (k : y < getD counts 2 0) (u v : ℕ) (f : u ≡ fieldOf rows 1 (fieldOf rows 2 x 0) 0)
                 (g : v ≡ fieldOf rows 1 (fieldOf rows 2 y 0) 0) where
               -- 5: inside one task
               pub mutex-inside : u ≡ v → 5 ≡ Mutex
               unfolding tableOf mostOf
-              mutex-inside d = rw (le-leb _ _ a, yes o e h, roomy (getD counts 4 0) m mostMutexes q room, lt-ltb _ _ l, lt-ltb _ _ k, ← f, ← g, eq-eqb _ _ d)
+              mutex-inside d = rw (le-leb _ _ a, yes-by o _ e h, roomy (getD counts 4 0) m mostMutexes q room, lt-ltb _ _ l, lt-ltb _ _ k, ← f, ← g, eq-eqb _ _ d)
 
               -- nothing is refused
               pub mutex-fine : (u ≡ v → ⊥) → 0 ≡ Mutex
               unfolding tableOf mostOf
-              mutex-fine d = rw (le-leb _ _ a, yes o e h, roomy (getD counts 4 0) m mostMutexes q room, lt-ltb _ _ l, lt-ltb _ _ k, ← f, ← g, ne-eqb _ _ d)
+              mutex-fine d = rw (le-leb _ _ a, yes-by o _ e h, roomy (getD counts 4 0) m mostMutexes q room, lt-ltb _ _ l, lt-ltb _ _ k, ← f, ← g, ne-eqb _ _ d)
 
   -- a row's refusal by its kind
   module _ (r : Row) (f : ℕ) where
@@ -436,18 +430,18 @@ module _ (counts rows : List ℕ) where
     -- 2: out of its place
     pub check-place : not p ≡ true → Refused 2 ≡ verdictOf (rowFault (made counts rows) r)
     unfolding rowFault
-    check-place h = rw (no p g h)
+    check-place h = rw (no-by p _ g h)
 
     module _ (h : not p ≡ false) (f : ℕ) (e : f ≡ kindFault K r) where
       -- accepted
       pub check-fine : f ≡ 0 → Fine ≡ verdictOf (rowFault (made counts rows) r)
       unfolding rowFault
-      check-fine z = rw (yes p g h, ← e, z)
+      check-fine z = rw (yes-by p _ g h, ← e, z)
 
       -- refused by its kind
       pub check-refused : (f ≡ 0 → ⊥) → Refused f ≡ verdictOf (rowFault (made counts rows) r)
       unfolding rowFault
-      check-refused z = rw (yes p g h, ← e) (refuses f z)
+      check-refused z = rw (yes-by p _ g h, ← e) (refuses f z)
 
 -- the mark that a row makes
 module _ (r : Row) where
@@ -535,21 +529,21 @@ module _ (counts rows marks : List ℕ) (b : Building (made counts rows) marks) 
 
     -- a task has no activity
     pub last-task : not p ≡ true → 7 ≡ Last
-    last-task k = rw (whole, some-tasks, no p f k)
+    last-task k = rw (whole, some-tasks, no-by p _ f k)
 
     module _ (k : not p ≡ false) (q : Bool) (g : q ≡ Marked (getD counts 1 0) 16) where
       -- an activity has no start
       pub last-act : not q ≡ true → 7 ≡ Last
-      last-act l = rw (whole, some-tasks, yes p f k, no q g l)
+      last-act l = rw (whole, some-tasks, yes-by p _ f k, no-by q _ g l)
 
       module _ (l : not q ≡ false) (s : Bool) (d : s ≡ Marked (getD counts 2 0) 144) where
         -- a codel has no edge
         pub last-codel : not s ≡ true → 7 ≡ Last
-        last-codel m = rw (whole, some-tasks, yes p f k, yes q g l, no s d m)
+        last-codel m = rw (whole, some-tasks, yes-by p _ f k, yes-by q _ g l, no-by s _ d m)
 
         -- nothing is missing
         pub last-fine : not s ≡ false → 0 ≡ Last
-        last-fine m = rw (whole, some-tasks, yes p f k, yes q g l, yes s d m)
+        last-fine m = rw (whole, some-tasks, yes-by p _ f k, yes-by q _ g l, yes-by s _ d m)
 
 -- a table closed at a line
 module _ (counts rows : List ℕ) (line f : ℕ) (e : f ≡ lastFault (tableOf (made counts rows))) where

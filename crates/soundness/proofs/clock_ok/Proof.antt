@@ -1,6 +1,6 @@
 -- `clock_ok` meets its contract.
 use borrow.Author.Needs.{needs}
-use Rattle.rules.proofs.Named.{rows}
+use Rattle.model.proofs.Asked.{known-codel}
 use Rattle.soundness.proofs.Sentences.{sentences}
 use Rattle.soundness.proofs.clock_ok.Statement.{statement}
 use Rattle.soundness.proofs.clock_ok.Tie as tie
@@ -15,7 +15,7 @@ enum-known-p : tie.Need-enum-known-p
 enum-known-p c = search needs
 
 limit-of-requires : tie.Need-limit-of-requires
-limit-of-requires c κs = search (needs, rows)
+limit-of-requires c κs = search (needs, known-codel)
 
 returns-2 : tie.Need-returns-2
 returns-2 c = search sentences

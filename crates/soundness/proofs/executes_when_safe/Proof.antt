@@ -1,12 +1,12 @@
 -- `executes_when_safe` meets its contract.
 use borrow.Author.Needs.{needs}
-use Rattle.rules.proofs.Named.{rows}
+use Rattle.model.proofs.Asked.{known-codel}
 use Rattle.soundness.proofs.Sentences.{sentences}
 use Rattle.soundness.proofs.executes_when_safe.Statement.{statement}
 use Rattle.soundness.proofs.executes_when_safe.Tie as tie
 
 both-requires : tie.Need-both-requires
-both-requires c κs = search (needs, rows)
+both-requires c κs = search (needs, known-codel)
 
 returns : tie.Need-returns
 returns c = search sentences
@@ -18,10 +18,10 @@ enum-known-p : tie.Need-enum-known-p
 enum-known-p c = search needs
 
 is-safe-requires : tie.Need-is-safe-requires
-is-safe-requires c κs = search (needs, rows)
+is-safe-requires c κs = search (needs, known-codel)
 
 implied-requires : tie.Need-implied-requires
-implied-requires c κs = search (needs, rows)
+implied-requires c κs = search (needs, known-codel)
 
 returns-2 : tie.Need-returns-2
 returns-2 c = search sentences

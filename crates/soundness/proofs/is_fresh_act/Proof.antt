@@ -1,6 +1,6 @@
 -- `is_fresh_act` meets its contract.
 use borrow.Author.Needs.{needs}
-use Rattle.rules.proofs.Answers.{turned-no, turned-yes}
+use Rattle.model.proofs.Asked.{turned-no, turned-yes}
 use Rattle.soundness.proofs.Parts.{chain, numbers, neither}
 use Rattle.soundness.proofs.is_fresh_act.Statement.{statement}
 use Rattle.soundness.proofs.is_fresh_act.Tie as tie

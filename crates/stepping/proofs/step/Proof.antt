@@ -1,7 +1,7 @@
 -- `step` meets its contract.
 use borrow.Author.Needs.{needs}
 use Rattle.model.proofs.Tests.{true-T}
-use Rattle.rules.proofs.Answers.{yes-by}
+use Rattle.model.proofs.Asked.{yes-by}
 use Rattle.table.proofs.TableTurns.{checked-fine}
 use Rattle.stepping.proofs.Single.{table-refused, state-unsound, step-is}
 use Rattle.stepping.proofs.step.Statement.{statement}

@@ -1,6 +1,6 @@
 -- `act_hinders` meets its contract.
 use borrow.Author.Needs.{needs}
-use Rattle.rules.proofs.Named.{known-codel}
+use Rattle.model.proofs.Asked.{known-codel}
 use Rattle.waits.proofs.Holders.{hindrances}
 use Rattle.waits.proofs.act_hinders.Statement.{statement}
 use Rattle.waits.proofs.act_hinders.Tie as tie

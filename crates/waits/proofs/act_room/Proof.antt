@@ -1,6 +1,6 @@
 -- `act_room` meets its contract.
 use borrow.Author.Needs.{needs}
-use Rattle.rules.proofs.Named.{known-codel}
+use Rattle.model.proofs.Asked.{known-codel}
 use Rattle.waits.proofs.Holders.{rooms}
 use Rattle.waits.proofs.act_room.Statement.{statement}
 use Rattle.waits.proofs.act_room.Tie as tie

@@ -1,6 +1,6 @@
 -- `is_clear_at` meets its contract.
 use borrow.Author.Needs.{needs}
-use Rattle.rules.proofs.Named.{known-codel}
+use Rattle.model.proofs.Asked.{known-codel}
 use Rattle.waits.proofs.Turns.{clear-at}
 use Rattle.waits.proofs.is_clear_at.Statement.{statement}
 use Rattle.waits.proofs.is_clear_at.Tie as tie

@@ -1,7 +1,7 @@
 -- `task_anew` meets its contract.
 use borrow.Author.Needs.{needs}
-use Rattle.rules.proofs.task_anew.Statement.{statement}
-use Rattle.rules.proofs.task_anew.Tie as tie
+use Rattle.records.proofs.task_anew.Statement.{statement}
+use Rattle.records.proofs.task_anew.Tie as tie
 
 holder-anew-requires : tie.Need-holder-anew-requires
 holder-anew-requires c κs = search needs

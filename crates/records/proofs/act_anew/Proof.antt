@@ -1,7 +1,7 @@
 -- `act_anew` meets its contract.
 use borrow.Author.Needs.{needs}
-use Rattle.rules.proofs.act_anew.Statement.{statement}
-use Rattle.rules.proofs.act_anew.Tie as tie
+use Rattle.records.proofs.act_anew.Statement.{statement}
+use Rattle.records.proofs.act_anew.Tie as tie
 
 place-anew-requires : tie.Need-place-anew-requires
 place-anew-requires c κs = search needs

@@ -1,7 +1,7 @@
 -- `may_run` meets its contract.
 use borrow.Author.Needs.{needs}
-use Rattle.rules.proofs.may_run.Statement.{statement}
-use Rattle.rules.proofs.may_run.Tie as tie
+use Rattle.records.proofs.may_run.Statement.{statement}
+use Rattle.records.proofs.may_run.Tie as tie
 
 is-held-requires : tie.Need-is-held-requires
 is-held-requires c κs = search needs

@@ -42,15 +42,15 @@ use Rattle.model.specs.Rules.{signalled}
 use Rattle.model.specs.declared.Task.{Task}
 use Rattle.model.proofs.Task as R
 use Rattle.model.proofs.Task.Laws as R′
-use Rattle.rules.proofs.Lent.{mach, typed, laid, found}
-use Rattle.rules.proofs.fire as fire
-use Rattle.rules.proofs.fire.Symbol as fire-def
-use Rattle.rules.proofs.fire.Symbol.{name as #rules·fire}
-use Rattle.rules.proofs.fire.Met as fire-thm
-use Rattle.rules.proofs.signalled_task.Key.{name as #rules·signalled-task}
-use Rattle.rules.proofs.signalled_task as f
-use Rattle.rules.proofs.signalled_task.Statement as stated
-use Rattle.rules.proofs.signalled_task.Code as code
+use Rattle.records.proofs.Lent.{mach, typed, laid, found}
+use Rattle.records.proofs.fire as fire
+use Rattle.records.proofs.fire.Symbol as fire-def
+use Rattle.records.proofs.fire.Symbol.{name as #records·fire}
+use Rattle.records.proofs.fire.Met as fire-thm
+use Rattle.records.proofs.signalled_task.Key.{name as #records·signalled-task}
+use Rattle.records.proofs.signalled_task as f
+use Rattle.records.proofs.signalled_task.Statement as stated
+use Rattle.records.proofs.signalled_task.Code as code
 
 abbrev stayed : Stays (f.ended .signature .params) (f.ended .kept)
 stayed = (stay-none (λ _. R.the-row) yes, tt)
@@ -102,7 +102,7 @@ module _ {M : Type 1} (𝓤 : URA M) (H : Heap 𝓤) (A : Atoms 𝓤) (W : Given
       split ! $ move ! (1 ∷ []) $ use1 W (‵ (fres γ (R.the-row .coded .code (signalled h)))) (told 𝓤 H A at-mem run α b γ h r) $
       move ! (1 ∷ []) $ split ! $ move ! (1 ∷ []) $ feqL ! (λ e. at-once ! $ check ! (ap only e) $ split ! $ keep ! (0 ∷ 2 ∷ []) $ done !))
 
-  module _ (C : Calls 𝓤 H) (Λ : Loops 𝓤 H) (fm : FmC 𝓤 H (W .laws) C) (known : Triple 𝓤 (C #rules·fire) (Fire 𝓤 H A at-mem run)) where
+  module _ (C : Calls 𝓤 H) (Λ : Loops 𝓤 H) (fm : FmC 𝓤 H (W .laws) C) (known : Triple 𝓤 (C #records·fire) (Fire 𝓤 H A at-mem run)) where
     walk : h .missed ≤ ceiling → ent 𝓤 (onEntry 𝓤 H A f.signature tt tt (h, tt) (mach h ∷ [], tt)) (WpFn 𝓤 H C Λ code.function (mach h ∷ []) Post)
     walk fits =
         qed W (‵ ftrue ∷ ‵ (owns (R.the-row ∷ []) (h, tt) (mach h ∷ [], tt)) ∷ []) ∵ enter ! C Λ code.function (mach h ∷ []) _ $
@@ -130,13 +130,13 @@ module _ {M : Type 1} (𝓤 : URA M) (H : Heap 𝓤) (A : Atoms 𝓤) (W : Given
         keep ! (0 ∷ []) $ by ! exits))))))))))
 
 module _ {M : Type 1} (𝓤 : URA M) (H : Heap 𝓤) (A : Atoms 𝓤) (W : Given 𝓤 H A) (at-mem : Memory → SProp 𝓤) (run : Routine → Fun 𝓤) where
-  walks : (C : Calls 𝓤 H) (Λ : Loops 𝓤 H) → FmC 𝓤 H (W .laws) C → Triple 𝓤 (C #rules·fire) (Fire 𝓤 H A at-mem run)
+  walks : (C : Calls 𝓤 H) (Λ : Loops 𝓤 H) → FmC 𝓤 H (W .laws) C → Triple 𝓤 (C #records·fire) (Fire 𝓤 H A at-mem run)
       → Walks 𝓤 H A f.ended stayed (WpFn 𝓤 H C Λ code.function) (f.clauses 𝓤 H A at-mem run)
   walks C Λ fm known = walked 𝓤 H A f.ended stayed (f.clauses 𝓤 H A at-mem run) (WpFn 𝓤 H C Λ code.function) (λ κs. (LL.vals R.the-type R′.the-laws, tt)) (λ κs. (LL.tells R.the-type R′.the-laws, tt))
       (λ κs qs bounds a g are. needs 𝓤 (a .0 .missed ≤ ceiling) _ (walk 𝓤 H A W at-mem run (a .0) (are .0) C Λ fm known))
 
 meets : {M : Type 1} (𝓤 : URA M) (H : Heap 𝓤) (A : Atoms 𝓤) (W : Given 𝓤 H A) (at-mem : Memory → SProp 𝓤) (run : Routine → Fun 𝓤) (𝓣 : Tables 𝓤 H)
-    → Triple 𝓤 (𝓣 .C #rules·fire) (Fire 𝓤 H A at-mem run) → Meets 𝓤 H A f.signature (WpFn 𝓤 H (𝓣 .C) (𝓣 .Λ) code.function) (f.spec 𝓤 H A at-mem run)
+    → Triple 𝓤 (𝓣 .C #records·fire) (Fire 𝓤 H A at-mem run) → Meets 𝓤 H A f.signature (WpFn 𝓤 H (𝓣 .C) (𝓣 .Λ) code.function) (f.spec 𝓤 H A at-mem run)
 meets 𝓤 H A W at-mem run 𝓣 known =
     walk-meets 𝓤 H A f.ended stayed W (goes-none 𝓤 H A W 0 (λ _. R.the-row) yes (λ κs x f. refl), tt) (f.clauses 𝓤 H A at-mem run)
     (WpFn 𝓤 H (𝓣 .C) (𝓣 .Λ) code.function) (WpFn-mono 𝓤 H (W .laws) 𝓣 code.function) (walks 𝓤 H A W at-mem run (𝓣 .C) (𝓣 .Λ) (fmOf 𝓤 H (W .laws) 𝓣) known)
@@ -145,6 +145,6 @@ pub signalled-task-spec : {M : Type 1} → stated.statement M
 unfolding code.routine tablesOf
 signalled-task-spec 𝓤 H 𝓜 𝓖 𝓡 =
     entered 𝓤 H (tripleOf 𝓤 H (𝓖 .A) f.signature (f.spec 𝓤 H (𝓖 .A) (𝓜 .mem) (𝓡 .run)))
-    (tables 𝓤 H 𝓜 𝓡 code.env .C) (tables 𝓤 H 𝓜 𝓡 code.env .Λ) #rules·signalled-task code.function (code.unfolded 𝓤 H 𝓜 𝓡)
+    (tables 𝓤 H 𝓜 𝓡 code.env .C) (tables 𝓤 H 𝓜 𝓡 code.env .Λ) #records·signalled-task code.function (code.unfolded 𝓤 H 𝓜 𝓡)
     (meets 𝓤 H (𝓖 .A) (givenOf 𝓤 H 𝓜 𝓖) (𝓜 .mem) (𝓡 .run) (tablesOf 𝓤 H 𝓜 (tables 𝓤 H 𝓜 𝓡 code.env))
-    (cited 𝓤 H (Fire 𝓤 H (𝓖 .A) (𝓜 .mem) (𝓡 .run)) 𝓜 𝓡 code.env #rules·fire fire-def.routine code.calls-rules·fire (fire-thm.met 𝓤 H 𝓜 𝓖 𝓡)))
+    (cited 𝓤 H (Fire 𝓤 H (𝓖 .A) (𝓜 .mem) (𝓡 .run)) 𝓜 𝓡 code.env #records·fire fire-def.routine code.calls-records·fire (fire-thm.met 𝓤 H 𝓜 𝓖 𝓡)))

@@ -1,7 +1,7 @@
 -- `with_holder` meets its contract.
 use borrow.Author.Needs.{needs}
-use Rattle.rules.proofs.with_holder.Statement.{statement}
-use Rattle.rules.proofs.with_holder.Tie as tie
+use Rattle.records.proofs.with_holder.Statement.{statement}
+use Rattle.records.proofs.with_holder.Tie as tie
 
 larger-requires : tie.Need-larger-requires
 larger-requires c κs = search needs

@@ -1,7 +1,7 @@
 -- `is_held` meets its contract.
 use borrow.Author.Needs.{needs}
-use Rattle.rules.proofs.is_held.Statement.{statement}
-use Rattle.rules.proofs.is_held.Tie as tie
+use Rattle.records.proofs.is_held.Statement.{statement}
+use Rattle.records.proofs.is_held.Tie as tie
 
 enum-told : tie.Need-enum-told
 enum-told c = search needs

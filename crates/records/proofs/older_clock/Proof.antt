@@ -1,8 +1,8 @@
 -- `older_clock` meets its contract.
 use borrow.Author.Needs.{needs}
-use Rattle.engine.proofs.Answers.{older}
-use Rattle.engine.proofs.older_clock.Statement.{statement}
-use Rattle.engine.proofs.older_clock.Tie as tie
+use Rattle.records.proofs.Records.{older}
+use Rattle.records.proofs.older_clock.Statement.{statement}
+use Rattle.records.proofs.older_clock.Tie as tie
 
 add-result : tie.Need-add-result
 add-result c = search needs

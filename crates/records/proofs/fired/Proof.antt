@@ -1,7 +1,7 @@
 -- `fired` meets its contract.
 use borrow.Author.Needs.{needs}
-use Rattle.rules.proofs.fired.Statement.{statement}
-use Rattle.rules.proofs.fired.Tie as tie
+use Rattle.records.proofs.fired.Statement.{statement}
+use Rattle.records.proofs.fired.Tie as tie
 
 add-u : tie.Need-add-u
 add-u c = search needs
