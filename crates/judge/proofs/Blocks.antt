@@ -16,7 +16,7 @@ use Rattle.engine.specs.Play.{Ready, Runs}
 use Rattle.tally.specs.declared.Tally.{Tally}
 use Rattle.engine.specs.declared.Going.{Going}
 use Rattle.engine.specs.declared.Ran.{Ran}
-use Rattle.judging.proofs.Counts.{Grows}
+use Rattle.tally.proofs.Counting.{Grows}
 use Rattle.judging.proofs.Reporting.{run-length}
 
 -- what lies within the first bytes lies within all

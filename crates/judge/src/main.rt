@@ -124,7 +124,7 @@ fn judge_turn(rows: &[u32], index: &[u32], chunk: &[u8], start: Going, got: usiz
     ensures { λ r. ⌜ Ready (tableIn (now (rows .entry)) (now (index .entry))) (r .going) ⌝ }
 {
     let c = start.tally;
-    if !judging::may_grow(c, chunk.len()) {
+    if !tally::may_grow(c, chunk.len()) {
         return Turn {
             going: start,
             more: false,

@@ -21,14 +21,14 @@ use Rattle.model.specs.declared.Line.the-variants as line
 use Rattle.log.specs.Lines.{readStep}
 use Rattle.report.specs.Rows.{cycleOf, cycleText, sumText}
 use Rattle.report.specs.declared.Cycle.{Cycle}
-use Rattle.tally.specs.Tallies.{tallied}
+use Rattle.tally.specs.Tallies.{tallied, sumOf}
 use Rattle.engine.specs.Play.{Played, told, stopped, telling, onVerdict, onLine, played, pieces, isClosed, Runs}
 use Rattle.tally.specs.declared.Tally.{Tally}
 use Rattle.engine.specs.declared.Stop.{Stop}
 use Rattle.engine.specs.declared.Stop.the-variants.{End, Refused, Closed}
 use Rattle.engine.specs.declared.Going.{Going}
 use Rattle.engine.specs.declared.Ran.{Ran}
-use Rattle.judging.specs.Report.{linesIn, sumOf, refusalOf}
+use Rattle.judging.specs.Report.{linesIn, refusalOf}
 use Rattle.judging.proofs.Telling.{tellLines, tell, rowOf, tell-none, tell-bad, tell-refused, tell-accepted}
 
 -- the row of a kept cycle that was not told for want of room

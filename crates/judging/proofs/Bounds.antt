@@ -6,6 +6,7 @@ use mathlib.Core.Path.{_≡_, refl, sym, ap, _∙_}
 use native.Mathlib.Omega.{arith}
 use lib.Dec.{T, leb, leb→le, eqb, eqb→eq}
 use lib.ListN.{length, getD, length-append}
+use borrow.Author.Tests.{le-leb, lt-leb}
 use Rattle.text.specs.Parts.{splitOn, joinOn}
 use Rattle.text.specs.Set.{setDigits}
 use Rattle.text.specs.Words.{wordIn, wordAt}
@@ -201,3 +202,11 @@ module _ (K : Table) (wf : T (wellformed K)) (log : List ℕ) where
   surely-holds room t =
       let both = and-both (leb 202 room) _ t in
       omega (arith, leb→le 202 room (both .0), leb→le (length log / 44) ((room - 202) / 75) (both .1), text-bound)
+
+-- whether a buffer surely holds a report, by the code's tests
+module _ (room bytes : ℕ) where
+  pub surely-not : room < 202 → false ≡ surely room bytes
+  surely-not h = rw (lt-leb _ _ h)
+
+  pub surely-by : 202 ≤ room → leb (bytes / 44) ((room - 202) / 75) ≡ surely room bytes
+  surely-by h = rw (le-leb _ _ h)

@@ -11,12 +11,12 @@ use Rattle.text.proofs.Picks.{cases}
 use Rattle.text.proofs.Parts.{join-split}
 use Rattle.model.specs.Tables.{Table}
 use Rattle.report.specs.Rows.{sumText}
+use Rattle.tally.specs.Tallies.{sumOf}
 use Rattle.engine.specs.Play.{pieces, Runs}
 use Rattle.engine.specs.declared.Stop.{Stop}
 use Rattle.engine.specs.declared.Stop.the-variants.{End, Refused}
 use Rattle.engine.specs.declared.Going.{Going}
 use Rattle.engine.specs.declared.Ran.{Ran}
-use Rattle.judging.specs.Report.{sumOf}
 use Rattle.judging.proofs.Telling.{tell}
 use Rattle.judging.proofs.Accounts.{pending, lastPart, followed, split-some, run-account}
 

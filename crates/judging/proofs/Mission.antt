@@ -27,7 +27,7 @@ use Rattle.table.specs.declared.Answer.the-variants.{Fine}
 use Rattle.table.proofs.Trips.{read-wellformed}
 use Rattle.judging.specs.Report.{linesIn, reportText, logText, reportOn}
 use Rattle.judging.proofs.Bounds.{text-bound}
-use Rattle.judging.proofs.Counts.{line-some}
+use Rattle.tally.proofs.Counting.{line-some}
 
 -- the rows of steps in two parts and a step between: the row of the step's verdict stands where the step does
 kept-parts : (K : Table) (ys : List Step) (s : State) (x : Step) (zs : List Step)

@@ -30,7 +30,7 @@ use Rattle.prepared.specs.Prepared.{tableIn, Prepared}
 use Rattle.report.specs.Rows.{numbersText, lineText, sumWord, headText, cycleText, rowsText, sumNumbers, sumText}
 use Rattle.report.specs.declared.Cycle.{Cycle}
 use Rattle.report.proofs.Lines.{put-length, head-length, line-length, numbers-most, row-most, Writing, writing-start, writing-put, writing-last}
-use Rattle.tally.specs.Tallies.{mostCount, noTally, Roomy}
+use Rattle.tally.specs.Tallies.{mostCount, noTally, Roomy, sumOf}
 use Rattle.engine.specs.Play.{pieces, isClosed, Ready, Runs}
 use Rattle.engine.specs.Starts.{freshGoing}
 use Rattle.tally.specs.declared.Tally.{Tally}
@@ -40,7 +40,7 @@ use Rattle.engine.specs.declared.Going.{Going}
 use Rattle.engine.specs.declared.Ran.{Ran}
 use Rattle.engine.proofs.Stop as kinds
 use Rattle.engine.proofs.Starting.{fresh-ready, roomy}
-use Rattle.judging.specs.Report.{reportText, logText, reportOn, sumOf, refusalOf, surely}
+use Rattle.judging.specs.Report.{reportText, logText, reportOn, refusalOf, surely}
 use Rattle.judging.proofs.Telling.{tell, log-text}
 use Rattle.judging.proofs.Accounts.{pending, run-account, run-tells}
 use Rattle.judging.proofs.Bounds.{surely-holds}

@@ -17,10 +17,10 @@ use Rattle.model.specs.declared.Step.{Step}
 use Rattle.model.specs.declared.Line.{Line}
 use Rattle.model.specs.declared.Line.the-variants as line
 use Rattle.report.specs.Rows.{headText, rowsText, sumText, keptText}
-use Rattle.tally.specs.Tallies.{noTally, keepsOne, tallied}
+use Rattle.tally.specs.Tallies.{noTally, keepsOne, tallied, sumOf}
 use Rattle.engine.specs.Play.{pieces}
 use Rattle.tally.specs.declared.Tally.{Tally}
-use Rattle.judging.specs.Report.{linesIn, logText, sumOf}
+use Rattle.judging.specs.Report.{linesIn, logText}
 
 -- the tally once these steps are done, and the `sum` row
 abbrev pub tallyAfter : Table → State → Tally → List Step → Tally

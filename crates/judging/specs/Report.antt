@@ -1,14 +1,13 @@
 -- The report on a table's text and a log, as bytes.
-use Prim.Native.Nat.{ℕ, _-_, _/_, max}
+use Prim.Native.Nat.{ℕ, _-_, _/_}
 use mathlib.Core.Bool.{Bool}
 use mathlib.Core.List.{List, [], _∷_, _++_}
 use lib.Dec.{leb}
 use Rattle.text.specs.Parts.{splitOn}
 use Rattle.model.specs.Tests.{_and_}
-use Rattle.model.specs.Cycles.{SumRow, Report, report, refusedReport, managing, lineOf}
+use Rattle.model.specs.Cycles.{Report, report, refusedReport}
 use Rattle.model.specs.States.{fresh}
 use Rattle.model.specs.Tables.{Table}
-use Rattle.model.specs.declared.State.{State}
 use Rattle.model.specs.declared.Line.{Line}
 use Rattle.model.specs.declared.Line.the-variants.{Bad}
 use Rattle.log.specs.Lines.{readStep}
@@ -19,7 +18,6 @@ use Rattle.table.specs.declared.Table as rows
 use Rattle.table.specs.declared.Answer.{Answer}
 use Rattle.table.specs.declared.Answer.the-variants.{Fine, Refused}
 use Rattle.report.specs.Rows.{headText, rowsText, sumText}
-use Rattle.tally.specs.declared.Tally.{Tally}
 use Rattle.engine.specs.declared.Stop.{Stop}
 use Rattle.engine.specs.declared.Stop.the-variants as stop
 
@@ -52,20 +50,6 @@ readText r log = answerText (r .table) log (r .answer)
 -- the report on a table's text and a log
 unfoldable pub reportOn : List ℕ → List ℕ → List ℕ
 reportOn table log = readText (readTable table) log
-
--- the `sum` row where judging ends with a refusal, or 0 for none
-abbrev pub sumOf : Table → State → Tally → ℕ → SumRow
-sumOf K s c n = record {
-  steps = c .steps;
-  date = s .date;
-  opened = c .opened;
-  kept = c .kept;
-  dropped = c .dropped;
-  managing = managing K s;
-  most = max (c .most) (c .since);
-  refusal = n;
-  line = lineOf n (c .steps);
-}
 
 -- the refusal that a run stopped at, 0 for none
 abbrev pub refusalOf : Stop → ℕ

@@ -1,26 +1,23 @@
 // The judge: a log judged against a table, and the report written. What the program streams and what the recorder calls is one work.
 ghost use mathlib.Core.Path.{_≡_};
-ghost use mathlib.Core.Bool.{true};
 ghost use Prim.Native.Nat.{_≤_};
 ghost use lib.ListN.{length};
 ghost use lib.Dec.{leb};
 ghost use Rattle.text.specs.Parts.{splitOn};
 ghost use Rattle.text.specs.Put.{Put};
-ghost use Rattle.model.specs.Cycles.{managing, lineOf, refusedReport};
+ghost use Rattle.model.specs.Cycles.{refusedReport};
 ghost use Rattle.prepared.specs.Prepared.{tableIn, Prepared};
 ghost use Rattle.table.specs.Checks.{checkTable};
 ghost use Rattle.table.specs.Tables.{tableOf};
 ghost use Rattle.table.specs.declared.Answer.the-variants.{Fine};
-ghost use Rattle.tally.specs.Tallies.{mostCount, Roomy};
+ghost use Rattle.tally.specs.Tallies.{mostCount, sumOf};
 ghost use Rattle.report.specs.Rows.{sumNumbers, sumText};
-ghost use Rattle.judging.specs.Report.{reportText, logText, reportOn, sumOf, refusalOf, surely};
+ghost use Rattle.judging.specs.Report.{reportText, logText, reportOn, refusalOf, surely};
 ghost use Rattle.judging.specs.Cut.{isEnd, endIn, cutOf, linesEnd, wholeLines};
 use engine::Going;
 use engine::Stop;
-use model::State;
 use table::Answer;
 use table::Table;
-use tally::Tally;
 
 // The longest `kept` row.
 const LONGEST_KEPT: usize = 75;
@@ -36,56 +33,12 @@ const SCRATCH: usize = 4096;
 // What the lines of a closed cycle take at least: its `sm` and its `fm`.
 const CYCLE_LINES: usize = 44;
 
-// The most that a count may come to.
-const MOST_COUNT: u64 = 9223372036854775808;
-
-// How many tasks manage.
-fn count_managing(rows: &[u32], index: &[u32], s: State) -> u64
-    requires { ⌜ Prepared (now rows) (now index) ⌝ }
-    ensures { λ r. ⌜ r ≡ managing (tableIn (now (rows .entry)) (now (index .entry))) s ⌝ }
-{
-    let nt = prepared::tasks(rows, index);
-    let mut n = 0;
-    let mut t = 0;
-    while t < nt {
-        let x = s.tasks[t];
-        t += 1;
-        if x.managing {
-            n += 1;
-        }
-    }
-    n
-}
-
-// "Lines count from the first line of table or log. .. No refusal: 0 and 0."
-fn line_of(refusal: u64, steps: u64) -> u64
-    requires { ⌜ steps ≤ mostCount ⌝ }
-    ensures { λ r. ⌜ r ≡ lineOf refusal steps ⌝ }
-{
-    if refusal == 0 {
-        return 0;
-    }
-    steps + 1
-}
-
-// The numbers of the `sum` row where judging ends with a refusal, 0 for none.
-fn sum_numbers(rows: &[u32], index: &[u32], g: Going, refusal: u64) -> [u64; 9]
+// The numbers of the `sum` row of what a run came to.
+fn end_numbers(rows: &[u32], index: &[u32], g: Going, refusal: u64) -> [u64; 9]
     requires { ⌜ Prepared (now rows) (now index) × (g .tally .steps ≤ mostCount) ⌝ }
     ensures { λ r. ⌜ r ≡ sumNumbers (sumOf (tableIn (now (rows .entry)) (now (index .entry))) (g .state) (g .tally) refusal) ⌝ }
 {
-    let s = g.state;
-    let c = g.tally;
-    let mut n = [0u64; 9];
-    n[0] = c.steps;
-    n[1] = s.date;
-    n[2] = c.opened;
-    n[3] = c.kept;
-    n[4] = c.dropped;
-    n[5] = count_managing(rows, index, s);
-    n[6] = records::larger(c.most, c.since);
-    n[7] = refusal;
-    n[8] = line_of(refusal, c.steps);
-    n
+    tally::sum_numbers(rows, index, g.state, g.tally, refusal)
 }
 
 // Writes the `sum` row, or nothing where it does not fit.
@@ -100,7 +53,7 @@ pub fn put_sum(
     requires { ⌜ Prepared (now rows) (now index) × (g .tally .steps ≤ mostCount) ⌝ }
     ensures { λ r. ⌜ Put (now (buf .entry)) at (sumText (sumOf (tableIn (now (rows .entry)) (now (index .entry))) (g .state) (g .tally) refusal)) r (now (buf .exit)) ⌝ }
 {
-    let numbers = sum_numbers(rows, index, g, refusal);
+    let numbers = end_numbers(rows, index, g, refusal);
     report::put_line(buf, at, b"sum", &numbers)
 }
 
@@ -150,7 +103,7 @@ fn does_fit(rows: &[u32], index: &[u32], log: &[u8], room: usize) -> bool
         }
         width += more;
         let Stop::Closed(k) = stop else {
-            let numbers = sum_numbers(rows, index, g, refusal_of(stop));
+            let numbers = end_numbers(rows, index, g, refusal_of(stop));
             return text::fits(room, width, report::line_width(3, &numbers));
         };
         filled = report::put_cycle(&mut scratch, 0, k);
@@ -283,28 +236,4 @@ pub fn whole_lines(s: &[u8]) -> usize
         return end;
     }
     s.len()
-}
-
-// Can each count still grow by n?
-pub fn may_grow(c: Tally, n: usize) -> bool
-    ensures { λ r. ⌜ (r ≡ true → Roomy c n) × (Roomy c n → r ≡ true) ⌝ }
-{
-    let more = n as u64;
-    if MOST_COUNT < more {
-        return false;
-    }
-    let most = MOST_COUNT - more;
-    if most < c.steps {
-        return false;
-    }
-    if most < c.opened {
-        return false;
-    }
-    if most < c.kept {
-        return false;
-    }
-    if most < c.dropped {
-        return false;
-    }
-    c.since <= most
 }

@@ -5,7 +5,7 @@ use Rattle.text.specs.Parts.{pick}
 use Rattle.model.specs.Tests.{_or_}
 use Rattle.model.specs.Tables.{Table}
 use Rattle.model.specs.Logs.{isWait}
-use Rattle.model.specs.Cycles.{Verdict, none, kept, dropped, verdict, opens, drops}
+use Rattle.model.specs.Cycles.{SumRow, managing, lineOf, Verdict, none, kept, dropped, verdict, opens, drops}
 use Rattle.model.specs.declared.State.{State}
 use Rattle.model.specs.declared.Task.{Task}
 use Rattle.model.specs.declared.Step.{Step}
@@ -88,3 +88,17 @@ pub record Roomy (c : Tally) (n : ℕ) : Type 0 where
   pub kept : c .kept + n ≤ mostCount
   pub dropped : c .dropped + n ≤ mostCount
   pub since : c .since + n ≤ mostCount
+
+-- the `sum` row where judging ends with a refusal, or 0 for none
+abbrev pub sumOf : Table → State → Tally → ℕ → SumRow
+sumOf K s c n = record {
+  steps = c .steps;
+  date = s .date;
+  opened = c .opened;
+  kept = c .kept;
+  dropped = c .dropped;
+  managing = managing K s;
+  most = max (c .most) (c .since);
+  refusal = n;
+  line = lineOf n (c .steps);
+}

@@ -1,13 +1,20 @@
-// The tally of a run and the verdicts on its cycles.
+// The tally of a run, the verdicts on its cycles, and the numbers of the `sum` row.
 ghost use mathlib.Core.Path.{_≡_};
+ghost use mathlib.Core.Bool.{true};
 ghost use Prim.Native.Nat.{_<_, _≤_};
 ghost use lib.Dec.{T};
+ghost use Rattle.model.specs.Cycles.{managing, lineOf};
+ghost use Rattle.report.specs.Rows.{sumNumbers};
 ghost use Rattle.prepared.specs.Prepared.{tableIn, Prepared};
 ghost use Rattle.rules.specs.Local.{named};
-ghost use Rattle.tally.specs.Tallies.{ruledBy, rulingBy, afterWait, afterSm, afterStep, Roomy};
+ghost use Rattle.tally.specs.Tallies.{ruledBy, rulingBy, afterWait, afterSm, afterStep, mostCount, Roomy, sumOf};
+use model::State;
 use model::Step;
 use model::Task;
 use report::Cycle;
+
+// The most that a count may come to.
+const MOST_COUNT: u64 = 9223372036854775808;
 
 // What is counted beside a run: accepted steps, cycles opened, kept and dropped, the steps since the last wait, and the most of the
 // stretches that a wait has ended.
@@ -106,4 +113,75 @@ pub fn after_step(c: Tally, w: Ruling) -> Tally
             d
         }
     }
+}
+
+// Can each count still grow by n?
+pub fn may_grow(c: Tally, n: usize) -> bool
+    ensures { λ r. ⌜ (r ≡ true → Roomy c n) × (Roomy c n → r ≡ true) ⌝ }
+{
+    let more = n as u64;
+    if MOST_COUNT < more {
+        return false;
+    }
+    let most = MOST_COUNT - more;
+    if most < c.steps {
+        return false;
+    }
+    if most < c.opened {
+        return false;
+    }
+    if most < c.kept {
+        return false;
+    }
+    if most < c.dropped {
+        return false;
+    }
+    c.since <= most
+}
+
+// How many tasks manage.
+fn count_managing(rows: &[u32], index: &[u32], s: State) -> u64
+    requires { ⌜ Prepared (now rows) (now index) ⌝ }
+    ensures { λ r. ⌜ r ≡ managing (tableIn (now (rows .entry)) (now (index .entry))) s ⌝ }
+{
+    let nt = prepared::tasks(rows, index);
+    let mut n = 0;
+    let mut t = 0;
+    while t < nt {
+        let x = s.tasks[t];
+        t += 1;
+        if x.managing {
+            n += 1;
+        }
+    }
+    n
+}
+
+// "Lines count from the first line of table or log. .. No refusal: 0 and 0."
+fn line_of(refusal: u64, steps: u64) -> u64
+    requires { ⌜ steps ≤ mostCount ⌝ }
+    ensures { λ r. ⌜ r ≡ lineOf refusal steps ⌝ }
+{
+    if refusal == 0 {
+        return 0;
+    }
+    steps + 1
+}
+
+// The numbers of the `sum` row where judging ends with a refusal, 0 for none.
+pub fn sum_numbers(rows: &[u32], index: &[u32], s: State, c: Tally, refusal: u64) -> [u64; 9]
+    requires { ⌜ Prepared (now rows) (now index) × (c .steps ≤ mostCount) ⌝ }
+    ensures { λ r. ⌜ r ≡ sumNumbers (sumOf (tableIn (now (rows .entry)) (now (index .entry))) s c refusal) ⌝ }
+{
+    let mut n = [0u64; 9];
+    n[0] = c.steps;
+    n[1] = s.date;
+    n[2] = c.opened;
+    n[3] = c.kept;
+    n[4] = c.dropped;
+    n[5] = count_managing(rows, index, s);
+    n[6] = records::larger(c.most, c.since);
+    n[7] = refusal;
+    n[8] = line_of(refusal, c.steps);
+    n
 }

@@ -48,8 +48,8 @@ enum-known-stop c = search needs
 refusal-of-requires : tie.Need-refusal-of-requires Inv-loop μ-loop
 refusal-of-requires c κs = search needs
 
-sum-numbers-requires : tie.Need-sum-numbers-requires Inv-loop μ-loop
-sum-numbers-requires c κs = (search needs, search (roomy-steps))
+end-numbers-requires : tie.Need-end-numbers-requires Inv-loop μ-loop
+end-numbers-requires c κs = (search needs, search (roomy-steps))
 
 slice-aggregate-line-width : tie.Need-slice-aggregate-line-width Inv-loop μ-loop
 slice-aggregate-line-width c = search needs
@@ -66,7 +66,7 @@ returns-3 c =
     let fit = stop .before .before in
     let turn = fit .before .before .before in
     fitting-end (turn .before .before .loop .inv) (turn .run .ensures) _ (fit .fits2 .ensures) (not-closed (turn .run .result .stop) (stop .match .keys2))
-    _ (c .before .before .before .before .refusal-of .ensures) _ (c .before .before .before .sum-numbers .ensures) _ (c .before .line-width .ensures) _ (c .fits3 .ensures)
+    _ (c .before .before .before .before .refusal-of .ensures) _ (c .before .before .before .end-numbers .ensures) _ (c .before .line-width .ensures) _ (c .fits3 .ensures)
 
 slice-aggregate-put-cycle : tie.Need-slice-aggregate-put-cycle Inv-loop μ-loop
 slice-aggregate-put-cycle c = search (needs, run-length)
@@ -96,7 +96,7 @@ does-fit-spec =
     add-width
     enum-known-stop
     refusal-of-requires
-    sum-numbers-requires
+    end-numbers-requires
     slice-aggregate-line-width
     line-width-requires
     fits-requires-2

@@ -4,8 +4,8 @@ use Rattle.report.proofs.Lines.{known-put}
 use Rattle.judging.proofs.put_sum.Statement.{statement}
 use Rattle.judging.proofs.put_sum.Tie as tie
 
-sum-numbers-requires : tie.Need-sum-numbers-requires
-sum-numbers-requires c κs = search needs
+end-numbers-requires : tie.Need-end-numbers-requires
+end-numbers-requires c κs = search needs
 
 slice-aggregate-put-line : tie.Need-slice-aggregate-put-line
 slice-aggregate-put-line c = search needs
@@ -26,7 +26,7 @@ pub put-sum-spec : {M : Type 1} → statement M
 put-sum-spec =
     tie.close
     (tie.spec
-    sum-numbers-requires
+    end-numbers-requires
     slice-aggregate-put-line
     slice-aggregate-put-line-2
     put-line-requires

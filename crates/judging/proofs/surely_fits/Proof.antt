@@ -1,5 +1,5 @@
 -- `surely_fits` meets its contract.
-use Rattle.judging.proofs.Counts.{surely-not, surely-by}
+use Rattle.judging.proofs.Bounds.{surely-not, surely-by}
 use Rattle.judging.proofs.surely_fits.Statement.{statement}
 use Rattle.judging.proofs.surely_fits.Tie as tie
 

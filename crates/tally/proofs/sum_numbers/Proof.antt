@@ -1,8 +1,8 @@
 -- `sum_numbers` meets its contract.
 use borrow.Author.Needs.{needs}
-use Rattle.judging.proofs.Counts.{sum-known}
-use Rattle.judging.proofs.sum_numbers.Statement.{statement}
-use Rattle.judging.proofs.sum_numbers.Tie as tie
+use Rattle.tally.proofs.Counting.{sum-known}
+use Rattle.tally.proofs.sum_numbers.Statement.{statement}
+use Rattle.tally.proofs.sum_numbers.Tie as tie
 
 array-write-n : tie.Need-array-write-n
 array-write-n c = search needs

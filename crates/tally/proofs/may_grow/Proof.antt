@@ -1,8 +1,8 @@
 -- `may_grow` meets its contract.
 use borrow.Author.Needs.{needs}
-use Rattle.judging.proofs.Counts.{grows-over, grows-steps, grows-opened, grows-kept, grows-dropped, grows-since}
-use Rattle.judging.proofs.may_grow.Statement.{statement}
-use Rattle.judging.proofs.may_grow.Tie as tie
+use Rattle.tally.proofs.Counting.{grows-over, grows-steps, grows-opened, grows-kept, grows-dropped, grows-since}
+use Rattle.tally.proofs.may_grow.Statement.{statement}
+use Rattle.tally.proofs.may_grow.Tie as tie
 
 returns : tie.Need-returns
 returns c = grows-over _ _ (search needs)

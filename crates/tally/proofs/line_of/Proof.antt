@@ -1,8 +1,8 @@
 -- `line_of` meets its contract.
 use borrow.Author.Needs.{needs}
-use Rattle.judging.proofs.Counts.{line-some}
-use Rattle.judging.proofs.line_of.Statement.{statement}
-use Rattle.judging.proofs.line_of.Tie as tie
+use Rattle.tally.proofs.Counting.{line-some}
+use Rattle.tally.proofs.line_of.Statement.{statement}
+use Rattle.tally.proofs.line_of.Tie as tie
 
 returns : tie.Need-returns
 returns c = search needs

@@ -1,12 +1,12 @@
--- The numbers of a `sum` row, and whether counts can grow and a buffer holds: one law for each answer, over plain variables.
-use Prim.Native.Nat.{ℕ, zero, suc, _+_, _-_, _/_, _≤_, _<_, max}
-use mathlib.Core.Path.{_≡_, refl}
+-- The numbers of a `sum` row, and whether counts can grow: one law for each answer, over plain variables.
+use Prim.Native.Nat.{ℕ, zero, suc, _+_, _-_, _≤_, _<_, max}
+use mathlib.Core.Path.{_≡_, refl, sym}
 use mathlib.Core.List.{List, [], _∷_}
 use mathlib.Core.Bool.{Bool, true, false}
 use native.Mathlib.Omega.{arith}
 use native.Mathlib.Numerals.{add-one}
 use lib.Dec.{leb}
-use borrow.Author.Tests.{le-leb, lt-leb, leb-true}
+use borrow.Author.Tests.{le-leb, leb-true}
 use Rattle.text.proofs.Picks.{false-true}
 use Rattle.model.specs.Tests.{one, sum}
 use Rattle.model.specs.States.{taskAt}
@@ -16,9 +16,8 @@ use Rattle.model.specs.declared.State.{State}
 use Rattle.prepared.specs.Prepared.{tableIn, Prepared}
 use Rattle.prepared.proofs.Stored.{most-tasks}
 use Rattle.report.specs.Rows.{sumNumbers}
-use Rattle.tally.specs.Tallies.{mostCount, Roomy}
+use Rattle.tally.specs.Tallies.{mostCount, Roomy, sumOf}
 use Rattle.tally.specs.declared.Tally.{Tally}
-use Rattle.judging.specs.Report.{sumOf, surely}
 
 -- the line of a refusal
 pub line-some : (n steps : ℕ) → (n ≡ 0 → ⊥) → steps + 1 ≡ lineOf n steps
@@ -29,14 +28,6 @@ line-some (suc n) steps h = refl
 pub sum-known : (K : Table) (s : State) (c : Tally) (n a b d : ℕ) → a ≡ managing K s → b ≡ max (c .most) (c .since) → d ≡ lineOf n (c .steps)
     → c .steps ∷ s .date ∷ c .opened ∷ c .kept ∷ c .dropped ∷ a ∷ b ∷ n ∷ d ∷ [] ≡ sumNumbers (sumOf K s c n)
 sum-known K s c n a b d p q r = rw (p, q, r)
-
--- whether a buffer surely holds a report
-module _ (room bytes : ℕ) where
-  pub surely-not : room < 202 → false ≡ surely room bytes
-  surely-not h = rw (lt-leb _ _ h)
-
-  pub surely-by : 202 ≤ room → leb (bytes / 44) ((room - 202) / 75) ≡ surely room bytes
-  surely-by h = rw (le-leb _ _ h)
 
 -- there are at most sixteen tasks
 pub few-tasks : {rows index : List ℕ} → Prepared rows index → (m : ℕ) → m ≡ tableIn rows index .ntasks → m ≤ 16
@@ -101,3 +92,9 @@ module _ (c : Tally) (n : ℕ) where
           record { steps = omega arith; opened = omega arith; kept = omega arith; dropped = omega arith; since = omega arith },
       λ r. le-leb (c .since) (mostCount - n) (omega (arith, r .since)),
     )
+
+-- two answers that such a test gives are equal
+pub grow-unique : {c : Tally} {n : ℕ} {r₁ r₂ : Bool} → Grows r₁ c n → Grows r₂ c n → r₁ ≡ r₂
+grow-unique {r₁ = true} h k = sym (k .1 (h .0 refl))
+grow-unique {r₁ = false} {r₂ = true} h k = h .1 (k .0 refl)
+grow-unique {r₁ = false} {r₂ = false} h k = refl
