@@ -2,8 +2,7 @@
 use mathlib.Core.Bool.{Bool, true, false, not}
 use mathlib.Core.Path.{_≡_}
 use Prim.Native.Nat.{ℕ}
-use Rattle.model.specs.Tests.{_or_}
-use Rattle.model.specs.Tables.{Table, isEther, isStart, hasEdge, safe}
+use Rattle.model.specs.Tables.{Table, isStart, hasEdge, safe}
 use Rattle.model.specs.States.{stands}
 use Rattle.model.specs.Rules.{entered, again, eaAllowed, faAllowed}
 use Rattle.model.specs.declared.Act.{Act}

@@ -9,7 +9,7 @@ use lib.ListN.{getD, set}
 use lib.Dec.{ltb, leb, eqb}
 use mir.Val.{Fits}
 use mir.Syntax.{w32}
-use borrow.Author.Tests.{lt-ltb, le-ltb, le-leb, lt-leb, eq-eqb, ne-eqb, eqb-true, eqb-false, not-true, not-false}
+use borrow.Author.Tests.{lt-ltb, le-ltb, le-leb, lt-leb, eq-eqb, ne-eqb, eqb-true, eqb-false}
 use Rattle.text.specs.Fields.{etherValue}
 use Rattle.text.proofs.Picks.{cases, order}
 use Rattle.row.specs.Kinds.{noField, aKind, aMode, mostOf, formOf}
