@@ -18,6 +18,9 @@ use table::Table;
 // How much is read at once: a table with the line behind it fits.
 const BLOCK: usize = 65536;
 
+// How much room the rows have that are written at once.
+const ROOM: usize = 16384;
+
 // How many blocks are read at most, which is more than any disk holds. A log that has more gets no `sum` row.
 const BLOCKS: u64 = 1099511627776;
 
@@ -70,7 +73,7 @@ fn judge_chunk(rows: &[u32], index: &[u32], chunk: &[u8], start: Going) -> Judge
     requires { ⌜ Prepared (now rows) (now index) × Ready (tableIn (now rows) (now index)) start × Roomy (start .tally) (length (now chunk)) ⌝ }
     ensures { λ r. ⌜ Ready (tableIn (now (rows .entry)) (now (index .entry))) (r .going) × Roomy (r .going .tally) 0 ⌝ }
 {
-    let mut out = [0u8; BLOCK];
+    let mut out = [0u8; ROOM];
     let mut g = start;
     let mut at = 0;
     let mut filled = 0;

@@ -20,6 +20,10 @@ use Rattle.model.specs.declared.Line.{Line}
 use Rattle.model.specs.declared.Line.the-variants as line
 use Rattle.log.specs.Lines.{stepWords, aNumber, given, only, onWord, stepIn}
 
+-- a word of two letters whose first is known, by its last
+pub last-letter : {r : Word} (y l k : ℕ) → r ≡ pick (eqb y l) (Is k) Unknown → r ≡ pick (pick (eqb y l) true false) (Is k) Unknown
+last-letter y l k e = cases (eqb y l) (λ f. rw f (rw f at e)) (λ f. rw f (rw f at e))
+
 -- the word of four letters, and all in their order
 abbrev pub wait : List ℕ
 wait = 119 ∷ 97 ∷ 105 ∷ 116 ∷ []

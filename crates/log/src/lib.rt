@@ -3,9 +3,11 @@ ghost use mathlib.Core.Path.{_≡_};
 ghost use mathlib.Core.List.{[], _∷_};
 ghost use Prim.Native.Nat.{_+_, _≤_, _<_};
 ghost use lib.ListN.{length, take};
-ghost use Rattle.text.specs.Parts.{partsFrom};
+ghost use lib.Dec.{eqb};
+ghost use Rattle.text.specs.Parts.{pick, partsFrom};
 ghost use Rattle.text.specs.Words.{wordIn};
 ghost use Rattle.text.specs.Fields.{behind};
+ghost use Rattle.text.specs.declared.Word.the-variants.{Is, Unknown};
 ghost use Rattle.model.specs.Tables.{targetOf};
 ghost use Rattle.log.specs.Lines.{stepWords, byForm, only, oneOf, twoOf, twoNumbers, managerLine, leavingLine, onWord, readStep, readLine};
 use model::Line;
@@ -25,6 +27,16 @@ const HEX: u8 = 1;
 
 const TARGET: u8 = 2;
 
+// The word of a number, where its last letter is the one read.
+fn ended(y: u8, last: u8, k: usize) -> Word
+    ensures { λ r. ⌜ r ≡ pick (eqb y last) (Is k) Unknown ⌝ }
+{
+    if y == last {
+        return Word::Is(k);
+    }
+    Word::Unknown
+}
+
 // The step word of two letters.
 fn two_letters(x: u8, y: u8) -> Word
     ensures { λ r. ⌜ r ≡ wordIn stepWords (x ∷ y ∷ []) ⌝ }
@@ -33,43 +45,25 @@ fn two_letters(x: u8, y: u8) -> Word
         if y == b't' {
             return Word::Is(1);
         }
-        if y == b'm' {
-            return Word::Is(2);
-        }
-        return Word::Unknown;
+        return ended(y, b'm', 2);
     }
     if x == b'l' {
-        if y == b'm' {
-            return Word::Is(3);
-        }
-        return Word::Unknown;
+        return ended(y, b'm', 3);
     }
     if x == b'i' {
-        if y == b'a' {
-            return Word::Is(4);
-        }
-        return Word::Unknown;
+        return ended(y, b'a', 4);
     }
     if x == b'e' {
-        if y == b'a' {
-            return Word::Is(5);
-        }
-        return Word::Unknown;
+        return ended(y, b'a', 5);
     }
     if x == b'c' {
-        if y == b'x' {
-            return Word::Is(6);
-        }
-        return Word::Unknown;
+        return ended(y, b'x', 6);
     }
     if x == b'f' {
         if y == b'a' {
             return Word::Is(7);
         }
-        if y == b'm' {
-            return Word::Is(8);
-        }
-        return Word::Unknown;
+        return ended(y, b'm', 8);
     }
     Word::Unknown
 }
