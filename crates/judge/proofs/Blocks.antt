@@ -44,15 +44,19 @@ put-within {buf} {text} {at = at} p h =
     (λ l. omega (arith, put-short l p .0, put-length p))
     (λ l. omega (arith, put-fits l p .0, put-length p))
 
+-- the length of the buffer that a chunk's rows are written to
+abbrev pub rowRoom : ℕ
+rowRoom = 16384
+
 -- the turns over a chunk: judged up to a place, and the rows not yet written stand at the front of the buffer
 pub record Judges (K : Table) (chunk out : List ℕ) (g : Going) (at filled : ℕ) : Type 0 where
   pub ready : Ready K g
   pub within : at ≤ length chunk
   pub roomy : Roomy (g .tally) (length chunk - at)
-  pub size : length out ≡ 16384
+  pub size : length out ≡ rowRoom
   pub room : filled ≤ length out
 
-pub judges-start : {K : Table} {chunk out : List ℕ} {g : Going} → Ready K g → Roomy (g .tally) (length chunk) → length out ≡ 16384 → Judges K chunk out g 0 0
+pub judges-start : {K : Table} {chunk out : List ℕ} {g : Going} → Ready K g → Roomy (g .tally) (length chunk) → length out ≡ rowRoom → Judges K chunk out g 0 0
 judges-start h r e = record { ready = h; within = omega arith; roomy = roomy-less r (omega arith); size = e; room = omega arith }
 
 module _ {K : Table} {log : List ℕ} {from : ℕ} {g : Going} {buf : List ℕ} {place : ℕ} {r : Ran} {after : List ℕ} (t : Runs K log from g buf place r after) where
@@ -61,7 +65,7 @@ module _ {K : Table} {log : List ℕ} {from : ℕ} {g : Going} {buf : List ℕ} 
   run-done = (t .ready, roomy-less (t .roomy) (omega arith))
 
   -- the row of a kept cycle that had no room is the first of the next turn
-  pub judges-more : {text out : List ℕ} {n : ℕ} → length buf ≡ 16384 → Put after 0 text n out → Judges K log out (r .going) (r .at) n
+  pub judges-more : {text out : List ℕ} {n : ℕ} → length buf ≡ rowRoom → Put after 0 text n out → Judges K log out (r .going) (r .at) n
   judges-more e p = record {
     ready = t .ready;
     within = t .within;
