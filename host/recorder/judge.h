@@ -22,8 +22,8 @@ extern "C" {
  * length 0 still wants a pointer that is not null.
  *
  * The answer is the length of the report, which then fills the first bytes of `report`; the bytes behind it stay as they were. It is 0
- * exactly when the report is longer than `report_length`, and all of `report` stays as it was. A table or a step that breaks the rules is
- * no failure: the last two numbers of the report say which rule was broken, and in which line.
+ * exactly when the report is longer than `report_length`, and all of `report` stays as it was: no report is empty (proved: `judge-zero`).
+ * A table or a step that breaks the rules is no failure: the last two numbers of the report say which rule was broken, and in which line.
  *
  * It allocates nothing and calls nothing; a thread that calls it should have 256 KiB of stack, of which it takes less than half. */
 size_t judge(const uint8_t *table, size_t table_length, const uint8_t *log, size_t log_length, uint8_t *report, size_t report_length);

@@ -1,5 +1,4 @@
 pub mod Lines
-pub mod StepKinds
 pub mod Flags
 pub mod Runs
 pub mod Waiting

@@ -1,10 +1,11 @@
 -- A turn of the loop at an `sm`: its refusal, the activities of its task put into N and R one by one, and the state behind it.
 use Prim.Native.Nat.{ℕ, _+_, _-_, _≤_, _<_}
-use mathlib.Core.Bool.{Bool, true}
+use mathlib.Core.Bool.{true}
 use mathlib.Core.List.{List}
-use mathlib.Core.Path.{_≡_, refl, ap, sym, subst, _∙_}
+use mathlib.Core.Path.{_≡_, refl, sym, _∙_}
 use native.Mathlib.Omega.{arith}
-use lib.Dec.{T, eqb, ltb}
+use borrow.Author.Tests.{lt-ltb}
+use lib.Dec.{eqb}
 use lib.ListN.{set}
 use Rattle.model.specs.States.{noAct, taskAt, actAt}
 use Rattle.model.specs.Rules.{anew, listed, refusal, next, managed}
@@ -12,25 +13,21 @@ use Rattle.model.specs.Cycles.{verdict}
 use Rattle.model.specs.declared.State.{State}
 use Rattle.model.specs.declared.Act.{Act}
 use Rattle.model.specs.declared.Task.{Task}
-use Rattle.model.specs.declared.Step.{Step}
 use Rattle.model.specs.declared.Step.the-variants.{Sm}
-use Rattle.model.proofs.Tests.{T-true}
 use Rattle.prepared.specs.Prepared.{tableIn, beginOf, endOf, actsAt, Prepared}
 use Rattle.prepared.proofs.Stored.{most-acts}
-use Rattle.rules.specs.Local.{named, taskIn}
 use Rattle.waits.specs.Beside.{listedOf, listedIn}
 use Rattle.waits.proofs.Beside.{map-set}
 use Rattle.waits.proofs.Facts.{act-of}
 use Rattle.tally.specs.Tallies.{afterSm}
-use Rattle.engine.specs.Turns.{isSm, smBy, flagged, flaggedFrom}
+use Rattle.engine.specs.Turns.{smNumber, flaggedFrom}
 use Rattle.tally.specs.declared.Tally.{Tally}
 use Rattle.tally.specs.declared.Ruling.the-variants.{Open}
 use Rattle.engine.specs.declared.Ran.{Ran}
-use Rattle.engine.proofs.StepKinds.{sm-is}
 use Rattle.tally.proofs.Tallying.{sm-counts, sm-roomy}
 use Rattle.engine.proofs.Flags.{flagged-none, flagged-more, flagged-busy, flagged-next}
 use Rattle.engine.proofs.Runs.{Scene, table, GoesOn, StopsAs, RefusedAs, Goes, here, sound-here, less-left, turn-stops, turn-open}
-use Rattle.engine.proofs.Naming.{Names, task-there}
+use Rattle.engine.proofs.Naming.{Tasked}
 
 -- the activities of the task t stand from the first up to the end
 pub record Spans (rows index : List ℕ) (t first end : ℕ) : Type 0 where
@@ -39,94 +36,84 @@ pub record Spans (rows index : List ℕ) (t first end : ℕ) : Type 0 where
   pub begins : first ≡ beginOf index actsAt t
   pub ends : end ≡ endOf index actsAt t
 
--- those before a are in N and R as x says, and listed so
-pub record Lists (rows index : List ℕ) (x : Step) (t first end : ℕ) (s u : State) (l : List ℕ) (a : ℕ) : Type 0 where
+-- those before a are in N and R as the sets n and r say, and listed so
+pub record Lists (rows index : List ℕ) (n r t first end : ℕ) (s u : State) (l : List ℕ) (a : ℕ) : Type 0 where
   pub spans : Spans rows index t first end
   pub low : first ≤ a
   pub high : a ≤ end
   pub date : u .date ≡ s .date
   pub tasks : u .tasks ≡ s .tasks
-  pub acts : u .acts ≡ flaggedFrom x first (a - first) (s .acts)
+  pub acts : u .acts ≡ flaggedFrom n r first (a - first) (s .acts)
   pub listed : l ≡ listedIn u
 
-module _ {rows index : List ℕ} {x : Step} {t first end : ℕ} {s u : State} {l : List ℕ} {a : ℕ} (L : Lists rows index x t first end s u l a) (h : a < end) where
+module _ {rows index : List ℕ} {n r t first end : ℕ} {s u : State} {l : List ℕ} {a : ℕ} (L : Lists rows index n r t first end s u l a) (h : a < end) where
   pub listed-fits : a < 64
   listed-fits = omega (arith, L .spans .ends, L .spans .prepared .acts .ends t (L .spans .row), most-acts (L .spans .prepared))
 
   -- one more
-  pub lists-more : (v : Act) → v ≡ flagged x a (actAt u a) → (k : ℕ) → k ≡ listedOf v → Lists rows index x t first end s (record { date = u .date; tasks = u .tasks; acts = set (u .acts) a v }) (set l a k) (a + 1)
+  pub lists-more : (v : Act) → v ≡ listed true n r a (actAt u a) → (k : ℕ) → k ≡ listedOf v → Lists rows index n r t first end s (record { date = u .date; tasks = u .tasks; acts = set (u .acts) a v }) (set l a k) (a + 1)
   lists-more v e k q = record {
     spans = L .spans;
     low = omega (arith, L .low);
     high = omega arith;
     date = L .date;
     tasks = L .tasks;
-    acts = flagged-more x first (s .acts) a (u .acts) (L .low) (L .acts) v e;
+    acts = flagged-more n r first (s .acts) a (u .acts) (L .low) (L .acts) v e;
     listed = rw (L .listed, q, map-set listedOf (u .acts) a v);
   }
 
--- a turn at an `sm` of the task t, whose refusal is n
-pub record Manages (σ : Scene) (t n : ℕ) : Type 0 where
-  pub names : Names σ
-  pub task : t ≡ taskIn (table σ) (σ .step)
-  pub run : ℕ
-  pub halt : ℕ
-  pub step : σ .step ≡ Sm t run halt
-  pub number : n ≡ smBy (table σ) (σ .step) (taskAt (σ .state) t)
+-- a turn at an `sm` of the task t with the sets n and r, whose refusal is k
+pub record Manages (σ : Scene) (t n r k : ℕ) : Type 0 where
+  pub tasked : Tasked σ t
+  pub step : σ .step ≡ Sm t n r
+  pub number : k ≡ smNumber (table σ) t n r (taskAt (σ .state) t)
 
-pub turn-manages : {σ : Scene} → Names σ → {t : ℕ} → t ≡ taskIn (table σ) (σ .step) → (b : Bool) → b ≡ isSm (σ .step) → b ≡ true → {n : ℕ} → n ≡ smBy (table σ) (σ .step) (taskAt (σ .state) t) → Manages σ t n
-turn-manages {σ} N {t} q b e f r =
-    let w = sm-is (σ .step) (sym e ∙ f) in
-    record { names = N; task = q; run = w .1; halt = w .2; step = w .3 ∙ ap (λ k. Sm k (w .1) (w .2)) (sym (q ∙ ap (taskIn (table σ)) (w .3))); number = r }
+pub turn-manages : {σ : Scene} {t : ℕ} → Tasked σ t → {n r : ℕ} → σ .step ≡ Sm t n r → {k : ℕ} → k ≡ smNumber (table σ) t n r (taskAt (σ .state) t) → Manages σ t n r k
+turn-manages N e q = record { tasked = N; step = e; number = q }
 
-module _ {σ : Scene} {t n : ℕ} (M : Manages σ t n) where
-  pub managed-there : t < table σ .ntasks
-  managed-there = task-there (M .names) (M .task)
-
-  is-refusal : n ≡ refusal (table σ) (σ .state) (σ .step)
-  unfolding refusal named
-  is-refusal =
-      let k : T (ltb t (table σ .ntasks)) = subst (λ x. T (named (table σ) x)) (M .step) (M .names .named) in
-      M .number ∙ rw (M .step, T-true (ltb t (table σ .ntasks)) k)
+module _ {σ : Scene} {t n r k : ℕ} (M : Manages σ t n r k) where
+  is-refusal : k ≡ refusal (table σ) (σ .state) (σ .step)
+  unfolding refusal
+  is-refusal = M .number ∙ rw (M .step, lt-ltb t (table σ .ntasks) (M .tasked .row))
 
   -- it is refused
-  pub sm-stops : (n ≡ 0 → ⊥) → (r : Ran) → RefusedAs σ n r → StopsAs σ r
-  sm-stops = turn-stops (M .names .turn) n is-refusal
+  pub sm-stops : (k ≡ 0 → ⊥) → (q : Ran) → RefusedAs σ k q → StopsAs σ q
+  sm-stops = turn-stops (M .tasked .turn) k is-refusal
 
-  pub lists-none : {first end : ℕ} → first ≡ beginOf (σ .index) actsAt t → end ≡ endOf (σ .index) actsAt t → Lists (σ .rows) (σ .index) (σ .step) t first end (σ .state) (σ .state) (σ .listed) first
+  pub lists-none : {first end : ℕ} → first ≡ beginOf (σ .index) actsAt t → end ≡ endOf (σ .index) actsAt t → Lists (σ .rows) (σ .index) n r t first end (σ .state) (σ .state) (σ .listed) first
   lists-none {first} b e =
-      let P = M .names .turn .prepared in
-      let a = act-of (table σ) (P .formed) t managed-there in
-      let o = P .acts .outside t (a .0) managed-there (a .1) (a .2) in
+      let P = M .tasked .turn .prepared in
+      let a = act-of (table σ) (P .formed) t (M .tasked .row) in
+      let o = P .acts .outside t (a .0) (M .tasked .row) (a .1) (a .2) in
       record {
-        spans = record { prepared = P; row = managed-there; begins = b; ends = e };
+        spans = record { prepared = P; row = M .tasked .row; begins = b; ends = e };
         low = omega arith;
         high = omega (arith, o .0, o .1);
         date = refl;
         tasks = refl;
-        acts = flagged-none (σ .step) first (σ .state .acts);
-        listed = here (M .names .turn) .listed;
+        acts = flagged-none n r first (σ .state .acts);
+        listed = here (M .tasked .turn) .listed;
       }
 
   -- it is accepted
-  pub sm-on : n ≡ 0 → {first end : ℕ} {u : State} {l : List ℕ} {a : ℕ} → Lists (σ .rows) (σ .index) (σ .step) t first end (σ .state) u l a → end ≤ a → (v : Task) → v ≡ managed (u .date) (taskAt (σ .state) t) → (d : Tally) → d ≡ afterSm (σ .tally) → GoesOn σ (record { date = u .date; tasks = set (u .tasks) t v; acts = u .acts }) (σ .busy) l d
+  pub sm-on : k ≡ 0 → {first end : ℕ} {u : State} {l : List ℕ} {a : ℕ} → Lists (σ .rows) (σ .index) n r t first end (σ .state) u l a → end ≤ a → (v : Task) → v ≡ managed (u .date) (taskAt (σ .state) t) → (d : Tally) → d ≡ afterSm (σ .tally) → GoesOn σ (record { date = u .date; tasks = set (u .tasks) t v; acts = u .acts }) (σ .busy) l d
   unfolding next verdict
   sm-on z {first = first} {end = end} {u = u} {l = l} {a = a} L h v q d p = turn-open goes refl
     where
-      flags : u .acts ≡ flaggedFrom (Sm t (M .run) (M .halt)) first (end - first) (σ .state .acts)
-      flags = let i : a ≡ end = omega (arith, L .high) in L .acts ∙ rw (M .step, i)
+      flags : u .acts ≡ flaggedFrom n r first (end - first) (σ .state .acts)
+      flags = let i : a ≡ end = omega (arith, L .high) in L .acts ∙ rw i
 
-      anew-acts : u .acts ≡ anew (table σ .nacts) (λ a. listed (eqb (table σ .task a) t) (M .run) (M .halt) a) noAct (σ .state .acts)
-      anew-acts = flags ∙ flagged-next (L .spans .prepared) t first end (L .spans .row) (L .spans .begins) (L .spans .ends) (omega (arith, L .low, L .high)) (M .run) (M .halt) (σ .state .acts) (omega (arith, sound-here (M .names .turn) .shape .acts, most-acts (L .spans .prepared)))
+      anew-acts : u .acts ≡ anew (table σ .nacts) (λ a. listed (eqb (table σ .task a) t) n r a) noAct (σ .state .acts)
+      anew-acts = flags ∙ flagged-next (L .spans .prepared) t first end (L .spans .row) (L .spans .begins) (L .spans .ends) (omega (arith, L .low, L .high)) n r (σ .state .acts) (omega (arith, sound-here (M .tasked .turn) .shape .acts, most-acts (L .spans .prepared)))
 
       goes : Goes σ (record { date = u .date; tasks = set (u .tasks) t v; acts = u .acts }) (σ .busy) l d Open
       goes = record {
-        turn = M .names .turn;
+        turn = M .tasked .turn;
         accepted = sym is-refusal ∙ z;
         state = rw (M .step, q, L .date, L .tasks, anew-acts);
-        busy = here (M .names .turn) .busy ∙ sym (flagged-busy t (M .run) (M .halt) first (σ .state .acts) (end - first)) ∙ rw flags;
+        busy = here (M .tasked .turn) .busy ∙ sym (flagged-busy n r first (σ .state .acts) (end - first)) ∙ rw flags;
         listed = L .listed;
-        tally = p ∙ rw (M .step) (sm-counts (table σ) (σ .state) (σ .tally) t (M .run) (M .halt));
-        roomy = rw p (sm-roomy (σ .tally) _ (here (M .names .turn) .roomy) _ (less-left (M .names .turn)));
+        tally = p ∙ rw (M .step) (sm-counts (table σ) (σ .state) (σ .tally) t n r);
+        roomy = rw p (sm-roomy (σ .tally) _ (here (M .tasked .turn) .roomy) _ (less-left (M .tasked .turn)));
         ruling = rw (M .step);
       }

@@ -1,84 +1,89 @@
--- A turn of the loop at a step that is not a wait: 12 where a row that it names is missing, else what its rows say.
+-- A turn of the loop at a step that names rows: refused where one is missing, else what its rows say.
 use Prim.Native.Nat.{ℕ, _≤_, _<_}
-use mathlib.Core.Bool.{Bool, true, false, not}
-use mathlib.Core.Path.{_≡_, ap, sym, _∙_}
+use mathlib.Core.Path.{_≡_, sym, _∙_}
 use native.Mathlib.Omega.{arith}
-use borrow.Author.Tests.{not-true, not-false}
-use lib.Dec.{T, ltb}
+use borrow.Author.Tests.{le-ltb}
+use lib.Dec.{T}
 use lib.ListN.{length}
-use Rattle.text.proofs.Picks.{cases}
 use Rattle.model.specs.Limits.{ceiling}
-use Rattle.model.specs.Tables.{Table, known}
+use Rattle.model.specs.Tables.{known}
 use Rattle.model.specs.States.{taskAt, actAt}
 use Rattle.model.specs.Rules.{refusal}
-use Rattle.model.specs.Logs.{isWait}
-use Rattle.model.specs.declared.State.{State}
-use Rattle.model.specs.declared.Step.{Step}
-use Rattle.model.proofs.Tests.{true-T}
+use Rattle.model.specs.declared.TaskStep.{TaskStep}
+use Rattle.model.specs.declared.ActStep.{ActStep}
+use Rattle.model.specs.declared.Step.the-variants.{Sm, OfTask, OfAct}
 use Rattle.model.proofs.Soundness.{FineTask, task-at}
 use Rattle.prepared.proofs.Stored.{most-tasks, most-acts}
-use Rattle.rules.specs.Local.{named, taskIn, actIn, ofTask}
+use Rattle.rules.specs.Local.{naming, taskIn}
+use Rattle.rules.proofs.Named.{act-there}
 use Rattle.rules.proofs.Steps.{task-unnamed, local-unnamed}
-use Rattle.waits.proofs.Facts.{place-known, missed-fits, act-in, task-in}
-use Rattle.engine.specs.Turns.{isSm}
+use Rattle.waits.proofs.Facts.{place-known, missed-fits, task-there}
 use Rattle.engine.specs.declared.Ran.{Ran}
-use Rattle.engine.proofs.StepKinds.{sm-is, act-is}
 use Rattle.engine.proofs.Runs.{busy-sized, listed-sized, Scene, table, Turn, StopsAs, RefusedAs, here, sound-here, turn-stops}
 
-unnamed : (K : Table) (s : State) (x : Step) → isWait x ≡ false → named K x ≡ false → refusal K s x ≡ 12
-unfolding refusal named
-unnamed K s x w h =
-    cases (isSm x)
-    (λ e.
-    let i = sm-is x e in
-    let k : ltb (i .0) (K .ntasks) ≡ false = ap (named K) (sym (i .3)) ∙ h in
-    rw (i .3, k))
-    (λ e. cases (ofTask x) (λ o. task-unnamed K s x (true-T _ o) h) (λ o. local-unnamed K s x (act-is x w e o) h))
+-- a row that the step names is missing
+module _ {σ : Scene} (Z : Turn σ) where
+  module _ {nt : ℕ} (q : nt ≡ table σ .ntasks) {t : ℕ} (h : nt ≤ t) (r : Ran) (f : RefusedAs σ 12 r) where
+    pub sm-missing : {n m : ℕ} → σ .step ≡ Sm t n m → StopsAs σ r
+    unfolding refusal
+    sm-missing e = let l : table σ .ntasks ≤ t = omega arith in turn-stops Z 12 (rw (e, le-ltb t (table σ .ntasks) l)) (λ z. omega arith) r f
 
--- a turn at a step that is not a wait and names rows that exist
-pub record Names (σ : Scene) : Type 0 where
+    pub task-missing : {k : TaskStep} → σ .step ≡ OfTask t k → StopsAs σ r
+    unfolding refusal
+    task-missing {k} e = turn-stops Z 12 (rw e (sym (task-unnamed (table σ) (σ .state) t k (omega arith)))) (λ z. omega arith) r f
+
+  pub act-missing : {a : ℕ} {k : ActStep} → σ .step ≡ OfAct a k → {n : ℕ} → n ≡ naming (table σ) a k → (n ≡ 0 → ⊥) → (r : Ran) → RefusedAs σ n r → StopsAs σ r
+  unfolding refusal
+  act-missing {a} {k} e {n} q z = turn-stops Z n (q ∙ rw e (sym (local-unnamed (table σ) (σ .state) a k (rw q at z)))) z
+
+-- a turn at a step of the task t, which has a row
+pub record Tasked (σ : Scene) (t : ℕ) : Type 0 where
   pub turn : Turn σ
-  pub other : isWait (σ .step) ≡ false
-  pub named : T (named (table σ) (σ .step))
+  pub row : t < table σ .ntasks
 
-module _ {σ : Scene} (Z : Turn σ) (w : Bool) (e : w ≡ isWait (σ .step)) (f : w ≡ false) (ok : Bool) (q : ok ≡ named (table σ) (σ .step)) where
-  pub rows-missing : not ok ≡ true → (r : Ran) → RefusedAs σ 12 r → StopsAs σ r
-  rows-missing h = turn-stops Z 12 (sym (unnamed (table σ) (σ .state) (σ .step) (sym e ∙ f) (sym q ∙ not-true ok h))) (λ z. omega arith)
+pub turn-tasked : {σ : Scene} → Turn σ → {nt t : ℕ} → nt ≡ table σ .ntasks → t < nt → Tasked σ t
+turn-tasked Z q h = record { turn = Z; row = omega arith }
 
-  pub turn-names : not ok ≡ false → Names σ
-  turn-names h = record { turn = Z; other = sym e ∙ f; named = true-T _ (sym q ∙ not-false ok h) }
+module _ {σ : Scene} {t : ℕ} (N : Tasked σ t) where
+  fine-there : FineTask (table σ) (σ .state .date) t (taskAt (σ .state) t)
+  fine-there = task-at (table σ) (σ .state) (sound-here (N .turn)) t (N .row)
 
-module _ {σ : Scene} (N : Names σ) where
-  -- the task that it names
-  module _ {t : ℕ} (q : t ≡ taskIn (table σ) (σ .step)) where
-    pub task-there : t < table σ .ntasks
-    task-there = omega (arith, task-in (table σ) (N .turn .prepared .formed) (σ .step) (N .named))
+  pub task-cell : t < 16
+  task-cell = omega (arith, N .row, most-tasks (N .turn .prepared))
 
-    fine-there : FineTask (table σ) (σ .state .date) t (taskAt (σ .state) t)
-    fine-there = task-at (table σ) (σ .state) (sound-here (N .turn)) t task-there
+  pub missed-small : taskAt (σ .state) t .missed ≤ ceiling
+  missed-small = missed-fits (table σ) (σ .state) (sound-here (N .turn)) t (N .row)
 
-    pub task-cell : t < 16
-    task-cell = omega (arith, task-there, most-tasks (N .turn .prepared))
+  pub cycle-small : taskAt (σ .state) t .cycle ≤ ceiling
+  cycle-small = omega (arith, fine-there .counts, sound-here (N .turn) .date)
 
-    pub missed-small : taskAt (σ .state) t .missed ≤ ceiling
-    missed-small = missed-fits (table σ) (σ .state) (sound-here (N .turn)) t task-there
+  pub opened-before : taskAt (σ .state) t .opened ≤ σ .state .date
+  opened-before = fine-there .opened
 
-    pub cycle-small : taskAt (σ .state) t .cycle ≤ ceiling
-    cycle-small = omega (arith, fine-there .counts, sound-here (N .turn) .date)
-
-    pub opened-before : taskAt (σ .state) t .opened ≤ σ .state .date
-    opened-before = fine-there .opened
-
-  -- and the activity
-  pub act-cell : {a : ℕ} → a ≡ actIn (σ .step) → a < 64
-  act-cell q = omega (arith, act-in (table σ) (N .turn .prepared .formed) (σ .step) (N .named), most-acts (N .turn .prepared))
-
-  pub place-there : (a : ℕ) → T (known (table σ) (actAt (σ .state) a .place))
-  place-there = place-known (table σ) (σ .state) (sound-here (N .turn))
-
-  -- what is kept beside the state has room for every activity
-  pub busy-long : table σ .nacts ≤ length (σ .busy)
-  busy-long = omega (arith, busy-sized (here (N .turn)), most-acts (N .turn .prepared))
-
+  -- what is kept of N and R has room for every activity
   pub listed-long : table σ .nacts ≤ length (σ .listed)
   listed-long = omega (arith, listed-sized (here (N .turn)), most-acts (N .turn .prepared))
+
+-- a turn at a step of the activity a, which is one and names rows
+pub record Named (σ : Scene) (a : ℕ) (k : ActStep) : Type 0 where
+  pub turn : Turn σ
+  pub step : σ .step ≡ OfAct a k
+  pub named : naming (table σ) a k ≡ 0
+
+pub turn-named : {σ : Scene} → Turn σ → {a : ℕ} {k : ActStep} → σ .step ≡ OfAct a k → {n : ℕ} → n ≡ naming (table σ) a k → n ≡ 0 → Named σ a k
+turn-named Z e q h = record { turn = Z; step = e; named = sym q ∙ h }
+
+module _ {σ : Scene} {a : ℕ} {k : ActStep} (N : Named σ a k) where
+  pub act-cell : a < 64
+  act-cell = omega (arith, act-there (table σ) a k (N .named), most-acts (N .turn .prepared))
+
+  -- the task that it touches
+  pub touched : {t : ℕ} → t ≡ taskIn (table σ) a k → Tasked σ t
+  touched q = record { turn = N .turn; row = omega (arith, task-there (table σ) (N .turn .prepared .formed) a k (N .named)) }
+
+  pub place-there : T (known (table σ) (actAt (σ .state) a .place))
+  place-there = place-known (table σ) (σ .state) (sound-here (N .turn)) a
+
+  -- what is kept of the codels that execute has room for every activity
+  pub busy-long : table σ .nacts ≤ length (σ .busy)
+  busy-long = omega (arith, busy-sized (here (N .turn)), most-acts (N .turn .prepared))

@@ -31,7 +31,7 @@ use Rattle.report.specs.Rows.{cycleOf, cycleText}
 use Rattle.report.specs.declared.Cycle.{Cycle}
 use Rattle.report.proofs.Lines.{put-length, row-some}
 use Rattle.tally.specs.Tallies.{rulingOf, tallied, Roomy}
-use Rattle.engine.specs.Play.{Played, pieces, told, stopped, telling, onKept, onVerdict, onStep, played, ranOf, Ready, isClosed, Runs}
+use Rattle.engine.specs.Play.{Played, playedTo, pieces, stopped, telling, onKept, onVerdict, onStep, played, ranOf, Ready, isClosed, Runs}
 use Rattle.engine.specs.Turns.{lineAt}
 use Rattle.tally.specs.declared.Tally.{Tally}
 use Rattle.tally.specs.declared.Ruling.{Ruling}
@@ -67,11 +67,11 @@ pub record Plays (K : Table) (log : List ℕ) (from : ℕ) (s₀ : State) (c₀ 
   pub rest : telling (rows .text) (played K s c (length lent - filled) (pieces log at)) ≡ played K s₀ c₀ (length lent - place) (pieces log from)
 
 -- rows told before nothing, and before a row more
-telling-none : (text : List ℕ) (s : State) (c : Tally) (w : Stop) (ps : List (List ℕ)) → telling text (stopped s c w ps) ≡ told text s c w ps
-telling-none text s c w ps = ap (λ l. told l s c w ps) (append-nil text)
+telling-none : (text : List ℕ) (s : State) (c : Tally) (w : Stop) (ps : List (List ℕ)) → telling text (stopped s c w ps) ≡ playedTo text s c w ps
+telling-none text s c w ps = ap (λ l. playedTo l s c w ps) (append-nil text)
 
 telling-more : (text row : List ℕ) (p : Played) → telling text (telling row p) ≡ telling (text ++ row) p
-telling-more text row p = ap (λ l. told l (p .state) (p .tally) (p .stop) (p .rest)) (sym (append-assoc text row (p .text)))
+telling-more text row p = ap (λ l. playedTo l (p .state) (p .tally) (p .stop) (p .rest)) (sym (append-assoc text row (p .text)))
 
 module _ {K : Table} {log : List ℕ} {from : ℕ} {s : State} {b l : List ℕ} {c : Tally} {at : ℕ} (H : Stands K log from s b l c at) where
   pub busy-sized : 64 ≡ length b
@@ -186,8 +186,8 @@ whole σ = played (table σ) (σ .start .state) (σ .start .tally) (length (σ .
 abbrev left : Scene → ℕ
 left σ = length (σ .lent) - σ .filled
 
-abbrev behind : Scene → List (List ℕ)
-behind σ = pieces (σ .log) (σ .newline + 1)
+abbrev linesAfter : Scene → List (List ℕ)
+linesAfter σ = pieces (σ .log) (σ .newline + 1)
 
 -- the verdict that its step gives
 abbrev pub given : Scene → Verdict
@@ -244,7 +244,7 @@ module _ {σ : Scene} (Z : Turn σ) where
   abbrev rows-here : Rows (σ .lent) (σ .place) (σ .buf) (σ .filled)
   rows-here = Z .plays .rows
 
-  played-here : whole σ ≡ telling (rows-here .text) (onStep (table σ) (σ .state) (σ .tally) (left σ) (σ .step) (pieces (σ .log) (σ .at)) (behind σ) (λ w d n. played (table σ) w d n (behind σ)))
+  played-here : whole σ ≡ telling (rows-here .text) (onStep (table σ) (σ .state) (σ .tally) (left σ) (σ .step) (pieces (σ .log) (σ .at)) (linesAfter σ) (λ w d n. played (table σ) w d n (linesAfter σ)))
   played-here = sym (Z .plays .rest) ∙ ap (telling (rows-here .text)) (at-step (table σ) (σ .state) (σ .tally) (left σ) (σ .log) (σ .at) (σ .newline) (Z .inside) (Z .ends) (σ .step) (Z .line))
 
   -- the step is refused
@@ -265,7 +265,7 @@ module _ {σ : Scene} {w : State} {b l : List ℕ} {d : Tally} {v : Ruling} (G :
   abbrev rows : Rows (σ .lent) (σ .place) (σ .buf) (σ .filled)
   rows = rows-here (G .turn)
 
-  played-after : whole σ ≡ telling (rows .text) (onVerdict (given σ) w d (left σ) (behind σ) (λ n. played (table σ) w d n (behind σ)))
+  played-after : whole σ ≡ telling (rows .text) (onVerdict (given σ) w d (left σ) (linesAfter σ) (λ n. played (table σ) w d n (linesAfter σ)))
   played-after = played-here (G .turn) ∙ rw (G .accepted, G .state, G .tally)
 
   -- no cycle is kept
@@ -277,7 +277,7 @@ module _ {σ : Scene} {w : State} {b l : List ℕ} {d : Tally} {v : Ruling} (G :
 
   -- a cycle is kept, and its row asks for room
   module _ (k : Cycle) (i : v ≡ Kept k) (more : ℕ) (buf : List ℕ) (p : Put (σ .buf) (σ .filled) (cycleText k) more buf) where
-    played-kept : whole σ ≡ telling (rows .text) (onKept k w d (left σ) (behind σ) (λ n. played (table σ) w d n (behind σ)))
+    played-kept : whole σ ≡ telling (rows .text) (onKept k w d (left σ) (linesAfter σ) (λ n. played (table σ) w d n (linesAfter σ)))
     played-kept = played-after ∙ ap (telling (rows .text)) (on-kept w d _ _ _ (given σ) k (sym (G .ruling) ∙ i))
 
     size : length (σ .buf) ≡ length (σ .lent)

@@ -10,7 +10,7 @@ use Rattle.text.specs.Parts.{joinOn}
 use Rattle.text.proofs.Parts.{join-split}
 use Rattle.model.specs.Tables.{Table}
 use Rattle.waits.specs.Beside.{busyIn, listedIn}
-use Rattle.engine.specs.Play.{Played, pieces, told, Ready, Runs}
+use Rattle.engine.specs.Play.{Played, playedTo, pieces, Ready, Runs}
 use Rattle.engine.specs.declared.Stop.{Stop}
 use Rattle.engine.specs.declared.Going.{Going}
 use Rattle.engine.specs.declared.Ran.{Ran}
@@ -31,7 +31,7 @@ same-going r q s c =
 -- so what a log comes to names the rows told, what is carried on, the place reached and the reason
 module _ {K : Table} (log : List ℕ) {text row : List ℕ} {g h : Going} {m n : ℕ} {v w : Stop} where
   same-stand : m ≤ length log → n ≤ length log → Ready K g → Ready K h
-      → told text (g .state) (g .tally) v (pieces log m) ≡ told row (h .state) (h .tally) w (pieces log n) → (text ≡ row) × (g ≡ h) × (m ≡ n) × (v ≡ w)
+      → playedTo text (g .state) (g .tally) v (pieces log m) ≡ playedTo row (h .state) (h .tally) w (pieces log n) → (text ≡ row) × (g ≡ h) × (m ≡ n) × (v ≡ w)
   same-stand a b r q e = (
     ap (λ (p : Played). p .text) e,
     same-going r q (ap (λ (p : Played). p .state) e) (ap (λ (p : Played). p .tally) e),

@@ -9,7 +9,6 @@ use Rattle.model.specs.Limits.{mostTicks, inRange, ceiling}
 use Rattle.model.specs.Tables.{Table}
 use Rattle.model.specs.States.{noTask, noAct, taskAt, actAt}
 use Rattle.model.specs.Rules.{anew, refusal, next, waitRefusal, timed, aged}
-use Rattle.model.specs.Logs.{isWait}
 use Rattle.model.specs.Cycles.{verdict}
 use Rattle.model.specs.declared.State.{State}
 use Rattle.model.specs.declared.Step.the-variants.{Wait}
@@ -22,11 +21,9 @@ use Rattle.waits.proofs.Facts.{clock-fits, timer-fits}
 use Rattle.waits.proofs.Holders.{Asks, Asked, asked-none}
 use Rattle.waits.proofs.Older.{older-busy, older-listed, not-older, older-next}
 use Rattle.tally.specs.Tallies.{afterWait}
-use Rattle.engine.specs.Turns.{ticksOf}
 use Rattle.tally.specs.declared.Tally.{Tally}
 use Rattle.tally.specs.declared.Ruling.the-variants.{Open}
 use Rattle.engine.specs.declared.Ran.{Ran}
-use Rattle.engine.proofs.StepKinds.{wait-is}
 use Rattle.tally.proofs.Tallying.{wait-counts, wait-roomy}
 use Rattle.engine.proofs.Runs.{Scene, table, Turn, GoesOn, StopsAs, RefusedAs, Goes, here, sound-here, formed-here, less-left, turn-stops, turn-open}
 
@@ -90,8 +87,8 @@ pub record Waits (σ : Scene) (d : ℕ) : Type 0 where
   pub turn : Turn σ
   pub step : σ .step ≡ Wait d
 
-pub turn-waits : {σ : Scene} → Turn σ → (b : Bool) → b ≡ isWait (σ .step) → b ≡ true → {d : ℕ} → d ≡ ticksOf (σ .step) → Waits σ d
-turn-waits {σ} Z b e f q = record { turn = Z; step = wait-is (σ .step) (sym e ∙ f) ∙ ap Wait (sym q) }
+pub turn-waits : {σ : Scene} → Turn σ → {d : ℕ} → σ .step ≡ Wait d → Waits σ d
+turn-waits Z e = record { turn = Z; step = e }
 
 module _ {σ : Scene} {d : ℕ} (W : Waits σ d) where
   -- its ticks are in their range, and no task has been asked

@@ -41,15 +41,15 @@ pub record Played : Type 0 where
   pub rest : List (List ℕ)
 
 -- these rows are told, and it stopped
-abbrev pub told : List ℕ → State → Tally → Stop → List (List ℕ) → Played
-told text s c w rest = record { text = text; state = s; tally = c; stop = w; rest = rest }
+abbrev pub playedTo : List ℕ → State → Tally → Stop → List (List ℕ) → Played
+playedTo text s c w rest = record { text = text; state = s; tally = c; stop = w; rest = rest }
 
 abbrev pub stopped : State → Tally → Stop → List (List ℕ) → Played
-stopped s c w rest = told [] s c w rest
+stopped s c w rest = playedTo [] s c w rest
 
 -- these rows are told, and then the rest
 abbrev pub telling : List ℕ → Played → Played
-telling text p = told (text ++ p .text) (p .state) (p .tally) (p .stop) (p .rest)
+telling text p = playedTo (text ++ p .text) (p .state) (p .tally) (p .stop) (p .rest)
 
 -- behind the last newline: "line without newline" is 11, nothing is the end
 abbrev pub lastLine : State → Tally → List ℕ → Played
@@ -106,7 +106,7 @@ isClosed (Closed c) = true
 -- the lines left are those that the log comes to with the room that the buffer has
 pub record Runs (K : Table) (log : List ℕ) (from : ℕ) (g : Going) (buf : List ℕ) (place : ℕ) (r : Ran) (after : List ℕ) : Type 0 where
   pub text : List ℕ
-  pub played : told text (r .going .state) (r .going .tally) (r .stop) (pieces log (r .at)) ≡ played K (g .state) (g .tally) (length buf - place) (pieces log from)
+  pub played : playedTo text (r .going .state) (r .going .tally) (r .stop) (pieces log (r .at)) ≡ played K (g .state) (g .tally) (length buf - place) (pieces log from)
   pub fits : place + length text ≤ length buf
   pub filled : r .filled ≡ place + length text
   pub bytes : after ≡ sets buf place text

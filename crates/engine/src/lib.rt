@@ -1,16 +1,15 @@
 // The engine: a log played line after line on a state that is changed in place.
+ghost use mathlib.Core.Bool.{true};
 ghost use mathlib.Core.Path.{_≡_};
 ghost use Prim.Native.Nat.{_-_, _<_, _≤_};
 ghost use lib.ListN.{length};
-ghost use lib.Dec.{T};
 ghost use Rattle.text.specs.Set.{bit};
 ghost use Rattle.model.specs.States.{fresh};
-ghost use Rattle.model.specs.Logs.{isWait};
+ghost use Rattle.model.specs.Rules.{listed};
 ghost use Rattle.prepared.specs.Prepared.{tableIn, Prepared};
-ghost use Rattle.rules.specs.Local.{named};
 ghost use Rattle.tally.specs.Tallies.{Roomy};
 ghost use Rattle.engine.specs.Play.{ranOf, Ready, Runs};
-ghost use Rattle.engine.specs.Turns.{lineAt, ticksOf, isSm, smNumber, smBy, inLists, flagged};
+ghost use Rattle.engine.specs.Turns.{lineAt, smNumber, inLists};
 ghost use Rattle.engine.specs.Starts.{goingFrom, freshGoing};
 use model::Act;
 use model::Holder;
@@ -58,55 +57,6 @@ fn line_at(log: &[u8], at: usize, e: usize) -> Line
     log::read_step(&log[at..e])
 }
 
-fn is_wait(st: Step) -> bool
-    ensures { λ r. ⌜ r ≡ isWait st ⌝ }
-{
-    match st {
-        Step::Wait(_) => true,
-        Step::St(_) => false,
-        Step::Sm(_, _, _) => false,
-        Step::Lm(_, _) => false,
-        Step::Ia(_) => false,
-        Step::Ea(_, _) => false,
-        Step::Cx(_) => false,
-        Step::Fa(_, _) => false,
-        Step::Fm(_) => false,
-    }
-}
-
-fn is_sm(st: Step) -> bool
-    ensures { λ r. ⌜ r ≡ isSm st ⌝ }
-{
-    match st {
-        Step::Wait(_) => false,
-        Step::St(_) => false,
-        Step::Sm(_, _, _) => true,
-        Step::Lm(_, _) => false,
-        Step::Ia(_) => false,
-        Step::Ea(_, _) => false,
-        Step::Cx(_) => false,
-        Step::Fa(_, _) => false,
-        Step::Fm(_) => false,
-    }
-}
-
-// The ticks of a wait.
-fn ticks_of(st: Step) -> u64
-    ensures { λ r. ⌜ r ≡ ticksOf st ⌝ }
-{
-    match st {
-        Step::Wait(d) => d,
-        Step::St(_) => 0,
-        Step::Sm(_, _, _) => 0,
-        Step::Lm(_, _) => 0,
-        Step::Ia(_) => 0,
-        Step::Ea(_, _) => 0,
-        Step::Cx(_) => 0,
-        Step::Fa(_, _) => 0,
-        Step::Fm(_) => 0,
-    }
-}
-
 // `sm` on its task: 12 for a set outside it, 13 unless the manager waits and the signal is set.
 fn sm_number(rows: &[u32], index: &[u32], t: usize, n: u64, r: u64, x: Task) -> u64
     requires { ⌜ Prepared (now rows) (now index) × (t < tableIn (now rows) (now index) .ntasks) ⌝ }
@@ -127,16 +77,6 @@ fn sm_number(rows: &[u32], index: &[u32], t: usize, n: u64, r: u64, x: Task) -> 
     13
 }
 
-fn sm_refusal(rows: &[u32], index: &[u32], st: Step, x: Task) -> u64
-    requires { ⌜ Prepared (now rows) (now index) × T (named (tableIn (now rows) (now index)) st) ⌝ }
-    ensures { λ k. ⌜ k ≡ smBy (tableIn (now (rows .entry)) (now (index .entry))) st x ⌝ }
-{
-    let Step::Sm(t, n, r) = st else {
-        return 13;
-    };
-    sm_number(rows, index, t, n, r, x)
-}
-
 fn has_bit(n: u64, a: usize) -> bool
     requires { ⌜ a < 64 ⌝ }
     ensures { λ r. ⌜ r ≡ bit n a ⌝ }
@@ -153,14 +93,11 @@ fn with_flags(y: Act, run: bool, halt: bool) -> Act
     records::act_anew(v)
 }
 
-// An activity of an `sm`'s task, put into N and R as its sets say.
-fn flag(st: Step, a: usize, y: Act) -> Act
+// An activity of an `sm`'s task, put into N and R as the sets n and r say.
+fn flag(n: u64, r: u64, a: usize, y: Act) -> Act
     requires { ⌜ a < 64 ⌝ }
-    ensures { λ r. ⌜ r ≡ flagged st a y ⌝ }
+    ensures { λ v. ⌜ v ≡ listed true n r a y ⌝ }
 {
-    let Step::Sm(_, n, r) = st else {
-        return y;
-    };
     with_flags(y, has_bit(n, a), has_bit(r, a))
 }
 
@@ -214,123 +151,134 @@ pub fn run(
         let Line::Is(st) = line_at(log, at, e) else {
             return left_at(s, busy, listed, c, at, filled, Stop::Refused(11));
         };
-        if is_wait(st) {
-            let d = ticks_of(st);
-            if !waits::in_range(d) {
-                return left_at(s, busy, listed, c, at, filled, Stop::Refused(12));
-            }
-            let mut room = true;
-            let mut k = 0;
-            while k < nt {
-                let x = s.tasks[k];
-                let h = x.holder;
-                let timely = waits::timer_room(rows, index, d, k, x.timer);
-                room = records::both(room, timely);
-                k += 1;
-                match h {
-                    Holder::Manager => {
-                        if records::either(x.managing, x.signal) {
-                            return left_at(s, busy, listed, c, at, filled, Stop::Refused(16));
+        match st {
+            Step::Wait(d) => {
+                if !waits::in_range(d) {
+                    return left_at(s, busy, listed, c, at, filled, Stop::Refused(12));
+                }
+                let mut room = true;
+                let mut k = 0;
+                while k < nt {
+                    let x = s.tasks[k];
+                    let h = x.holder;
+                    let timely = waits::timer_room(rows, index, d, k, x.timer);
+                    room = records::both(room, timely);
+                    k += 1;
+                    match h {
+                        Holder::Manager => {
+                            if records::either(x.managing, x.signal) {
+                                return left_at(s, busy, listed, c, at, filled, Stop::Refused(16));
+                            }
+                        }
+                        Holder::Activity(a) => {
+                            let y = s.acts[a];
+                            if waits::act_hinders(rows, index, &busy, y) {
+                                return left_at(s, busy, listed, c, at, filled, Stop::Refused(16));
+                            }
+                            room = records::both(room, waits::act_room(rows, index, d, y));
                         }
                     }
-                    Holder::Activity(a) => {
-                        let y = s.acts[a];
-                        if waits::act_hinders(rows, index, &busy, y) {
-                            return left_at(s, busy, listed, c, at, filled, Stop::Refused(16));
+                }
+                let n = waits::wait_number(room, s.date, d);
+                if n != 0 {
+                    return left_at(s, busy, listed, c, at, filled, Stop::Refused(n));
+                }
+                let mut m = 0;
+                while m < nt {
+                    let x = s.tasks[m];
+                    let h = x.holder;
+                    let late = x.timer + d;
+                    s.tasks[m].timer = late;
+                    m += 1;
+                    match h {
+                        Holder::Manager => {}
+                        Holder::Activity(a) => {
+                            let y = s.acts[a];
+                            let old = records::older_clock(y, d);
+                            s.acts[a].clock = old;
                         }
-                        room = records::both(room, waits::act_room(rows, index, d, y));
                     }
                 }
-            }
-            let n = waits::wait_number(room, s.date, d);
-            if n != 0 {
-                return left_at(s, busy, listed, c, at, filled, Stop::Refused(n));
-            }
-            let mut m = 0;
-            while m < nt {
-                let x = s.tasks[m];
-                let h = x.holder;
-                let late = x.timer + d;
-                s.tasks[m].timer = late;
-                m += 1;
-                match h {
-                    Holder::Manager => {}
-                    Holder::Activity(a) => {
-                        let y = s.acts[a];
-                        let old = records::older_clock(y, d);
-                        s.acts[a].clock = old;
-                    }
-                }
-            }
-            s.date = s.date + d;
-            c = tally::after_wait(c);
-            at = e + 1;
-            continue;
-        }
-        if !rules::rows_exist(rows, index, st) {
-            return left_at(s, busy, listed, c, at, filled, Stop::Refused(12));
-        }
-        let ti = rules::task_in(rows, index, st);
-        let x = s.tasks[ti];
-        if is_sm(st) {
-            let n = sm_refusal(rows, index, st, x);
-            if n != 0 {
-                return left_at(s, busy, listed, c, at, filled, Stop::Refused(n));
-            }
-            let end = prepared::acts_end(rows, index, ti);
-            let mut a = prepared::acts_begin(rows, index, ti);
-            while a < end {
-                let y = s.acts[a];
-                let v = flag(st, a, y);
-                s.acts[a] = v;
-                listed[a] = waits::listed_of(v);
-                a += 1;
-            }
-            let u = records::opened_task(s.date, x);
-            s.tasks[ti] = u;
-            c = tally::after_sm(c);
-            at = e + 1;
-            continue;
-        }
-        if rules::is_of_task(st) {
-            let empty = waits::is_empty_for(rows, index, &listed, st);
-            let told = rules::task_step(rows, index, st, empty, x);
-            let n = told.number;
-            if n != 0 {
-                return left_at(s, busy, listed, c, at, filled, Stop::Refused(n));
-            }
-            let u = told.task;
-            s.tasks[ti] = u;
-            let w = tally::ruling_of(rows, index, st, s.date, x);
-            c = tally::after_step(c, w);
-            at = e + 1;
-            let Ruling::Kept(k) = w else {
+                s.date = s.date + d;
+                at = e + 1;
+                c = tally::after_wait(c);
                 continue;
-            };
-            let more = report::put_cycle(buf, filled, k);
-            if more == filled {
-                return left_at(s, busy, listed, c, at, filled, Stop::Closed(k));
             }
-            filled = more;
-            continue;
+            Step::Sm(t, n, r) => {
+                if nt <= t {
+                    return left_at(s, busy, listed, c, at, filled, Stop::Refused(12));
+                }
+                let x = s.tasks[t];
+                let k = sm_number(rows, index, t, n, r, x);
+                if k != 0 {
+                    return left_at(s, busy, listed, c, at, filled, Stop::Refused(k));
+                }
+                let end = prepared::acts_end(rows, index, t);
+                let mut a = prepared::acts_begin(rows, index, t);
+                while a < end {
+                    let y = s.acts[a];
+                    let v = flag(n, r, a, y);
+                    s.acts[a] = v;
+                    listed[a] = waits::listed_of(v);
+                    a += 1;
+                }
+                let u = records::opened_task(s.date, x);
+                s.tasks[t] = u;
+                at = e + 1;
+                c = tally::after_sm(c);
+                continue;
+            }
+            Step::OfTask(t, k) => {
+                if nt <= t {
+                    return left_at(s, busy, listed, c, at, filled, Stop::Refused(12));
+                }
+                let x = s.tasks[t];
+                let empty = waits::is_empty_for(rows, index, &listed, t, k);
+                let told = rules::task_step(rows, index, t, k, empty, x);
+                let n = told.number;
+                if n != 0 {
+                    return left_at(s, busy, listed, c, at, filled, Stop::Refused(n));
+                }
+                let u = told.task;
+                s.tasks[t] = u;
+                let w = tally::ruling_of(rows, index, t, k, s.date, x);
+                at = e + 1;
+                c = tally::after_step(c, w);
+                let Ruling::Kept(row) = w else {
+                    continue;
+                };
+                let more = report::put_cycle(buf, filled, row);
+                if more == filled {
+                    return left_at(s, busy, listed, c, at, filled, Stop::Closed(row));
+                }
+                filled = more;
+                continue;
+            }
+            Step::OfAct(a, k) => {
+                let missing = rules::check_names(rows, index, a, k);
+                if missing != 0 {
+                    return left_at(s, busy, listed, c, at, filled, Stop::Refused(missing));
+                }
+                let t = rules::task_in(rows, index, a, k);
+                let x = s.tasks[t];
+                let y = s.acts[a];
+                let p = y.place;
+                let clear = waits::is_clear_for(rows, index, &busy, k, p);
+                let told = rules::local_step(rows, index, a, k, clear, x, y);
+                let n = told.number;
+                if n != 0 {
+                    return left_at(s, busy, listed, c, at, filled, Stop::Refused(n));
+                }
+                let u = told.task;
+                let v = told.act;
+                s.tasks[t] = u;
+                s.acts[a] = v;
+                busy[a] = waits::busy_of(v);
+                listed[a] = waits::listed_of(v);
+                at = e + 1;
+                c = tally::after_step(c, Ruling::Open);
+            }
         }
-        let ai = rules::act_in(st);
-        let y = s.acts[ai];
-        let p = y.place;
-        let clear = waits::is_clear_for(rows, index, &busy, st, p);
-        let told = rules::local_step(rows, index, st, clear, x, y);
-        let n = told.number;
-        if n != 0 {
-            return left_at(s, busy, listed, c, at, filled, Stop::Refused(n));
-        }
-        let u = told.task;
-        let v = told.act;
-        s.tasks[ti] = u;
-        s.acts[ai] = v;
-        busy[ai] = waits::busy_of(v);
-        listed[ai] = waits::listed_of(v);
-        c = tally::after_step(c, Ruling::Open);
-        at = e + 1;
     }
     left_at(s, busy, listed, c, at, filled, Stop::End)
 }

@@ -1,75 +1,85 @@
--- The log judged block after block: what the turns over a chunk carry.
-use Prim.Native.Nat.{ℕ, _+_, _-_, _≤_}
-use mathlib.Core.Path.{_≡_, _∙_}
+-- The log judged block after block: what the turns carry.
+use Prim.Native.Nat.{ℕ, _+_, _-_, _*_, _≤_, _<_}
+use mathlib.Core.Bool.{Bool, true, false, not}
+use mathlib.Core.Path.{_≡_, refl, sym, ap, _∙_}
 use mathlib.Core.List.{List}
-use mathlib.Core.Bool.{Bool, false, not}
 use native.Mathlib.Omega.{arith}
-use lib.ListN.{length, take, length-take}
-use borrow.Author.Tests.{not-false}
-use Rattle.text.specs.Put.{Put}
-use Rattle.text.proofs.Picks.{order}
-use Rattle.text.proofs.Puts.{put-fits, put-short}
-use Rattle.model.specs.Tables.{Table}
+use lib.ListN.{length}
+use lib.Dec.{eqb}
+use borrow.Author.Tests.{eqb-true, eqb-false, not-true, not-false}
+use Rattle.text.proofs.Picks.{cases, order}
+use Rattle.model.specs.Tests.{one}
+use Rattle.model.specs.States.{fresh}
+use Rattle.prepared.specs.Prepared.{tableIn, Prepared}
 use Rattle.report.proofs.Lines.{put-length}
 use Rattle.tally.specs.Tallies.{Roomy}
-use Rattle.engine.specs.Play.{Ready, Runs}
-use Rattle.tally.specs.declared.Tally.{Tally}
+use Rattle.engine.specs.Starts.{freshGoing}
 use Rattle.engine.specs.declared.Going.{Going}
-use Rattle.engine.specs.declared.Ran.{Ran}
-use Rattle.tally.proofs.Counting.{Grows}
-use Rattle.judging.proofs.Reporting.{run-length}
+use Rattle.engine.proofs.Starting.{roomy}
+use Rattle.stream.specs.Cut.{cutKnown}
+use Rattle.stream.proofs.Cuts.{unknown-few}
+use Rattle.streaming.specs.Turns.{mostBlock}
+use Rattle.streaming.specs.Lent.{Resumes, Judged}
+use Rattle.streaming.specs.declared.Turn.{Turn}
+use Rattle.streaming.proofs.Turning.{less-roomy, fresh-resumes, turn-resumes, turn-roomy}
 
--- what lies within the first bytes lies within all
-pub first-within : (n k : ℕ) (s : List ℕ) → n ≤ length (take k s) → n ≤ length s
-first-within n k s h = omega (arith, length-take k s)
+-- the input's start: the bytes at hand say where the table ends
+pub start-known : (s : List ℕ) (ended known : Bool) → known ≡ cutKnown ended s → not known ≡ false → cutKnown ended s ≡ true
+start-known s ended known e y = sym e ∙ not-false known y
 
--- the counts can grow where the test found so
-pub may-judge : {c : Tally} {n : ℕ} (may : Bool) → Grows may c n → not may ≡ false → Roomy c n
-may-judge may h y = h .0 (not-false may y)
+-- where the bytes at hand do not say where the table ends the input has not ended, and each block brings some or ends it
+pub start-less : (s : List ℕ) (ended known : Bool) → known ≡ cutKnown ended s → not known ≡ true → (block₀ block : List ℕ) → length block ≡ length block₀
+    → (have got : ℕ) → have + got ≤ length block → one (not (eqb got 0)) + (length block₀ - (have + got)) < one (not ended) + (length block₀ - have)
+start-less s ended known e n block₀ block q have got h =
+    let u : one (not ended) ≡ 1 = ap (λ b. one (not b)) (unknown-few s ended (sym e ∙ not-true known n) .0) in
+    cases (eqb got 0)
+    (λ y. rw y (omega (arith, eqb-true got 0 y)))
+    (λ y. rw y (some (eqb-false got 0 y) u))
+  where
+    some : (got ≡ 0 → ⊥) → one (not ended) ≡ 1 → 1 + (length block₀ - (have + got)) < one (not ended) + (length block₀ - have)
+    some f u = order 0 got (λ l. omega arith) (λ l. absurd (f (omega arith)))
 
--- room for more is room for less
-roomy-less : {c : Tally} {n m : ℕ} → Roomy c n → m ≤ n → Roomy c m
-roomy-less h l = record {
-  steps = omega (arith, h .steps);
-  opened = omega (arith, h .opened);
-  kept = omega (arith, h .kept);
-  dropped = omega (arith, h .dropped);
-  since = omega (arith, h .since);
+-- how many blocks are read at most
+abbrev mostBlocks : ℕ
+mostBlocks = 1099511627776
+
+-- behind so many blocks the counts have room for those to come, a line more in each
+pub record Reading (rows index block₀ out₀ block out : List ℕ) (g : Going) (have turns : ℕ) : Type 0 where
+  pub resumes : Resumes (tableIn rows index) g
+  pub roomy : Roomy (g .tally) ((mostBlocks - turns) * (mostBlock + 1))
+  pub within : have ≤ length block
+  pub same : length block ≡ length block₀
+  pub room : length out ≡ length out₀
+
+pub reading-start : (rows index block out : List ℕ) (have : ℕ) → have ≤ length block → (g : Going) → g ≡ freshGoing
+    → Reading rows index block out block out g have 0
+unfolding freshGoing
+reading-start rows index block out have h g e = record {
+  resumes = fresh-resumes (tableIn rows index) g e;
+  roomy = roomy fresh g e ((mostBlocks - 0) * (mostBlock + 1)) (omega arith);
+  within = h;
+  same = refl;
+  room = refl;
 }
 
--- a text written ends within the buffer
-put-within : {buf text after : List ℕ} {at r : ℕ} → Put buf at text r after → at ≤ length buf → r ≤ length after
-put-within {buf} {text} {at = at} p h =
-    order (length buf) (at + length text)
-    (λ l. omega (arith, put-short l p .0, put-length p))
-    (λ l. omega (arith, put-fits l p .0, put-length p))
+module _ {rows index block₀ out₀ block out : List ℕ} {g : Going} {have turns : ℕ} (R : Reading rows index block₀ out₀ block out g have turns)
+    (l : length block₀ ≤ mostBlock) (b : turns < mostBlocks) where
+  pub reading-roomy : Roomy (g .tally) have
+  reading-roomy = less-roomy (R .roomy) (omega (arith, R .within, R .same))
 
--- the length of the buffer that a chunk's rows are written to
-abbrev pub rowRoom : ℕ
-rowRoom = 16384
+  -- the block keeps its length
+  pub reading-small : (ended : Bool) {r : Turn} {rest after : List ℕ} → Judged (tableIn rows index) g ended block have out r rest after → length rest ≤ mostBlock
+  reading-small ended J = omega (arith, put-length (J .held), R .same)
 
--- the turns over a chunk: judged up to a place, and the rows not yet written stand at the front of the buffer
-pub record Judges (K : Table) (chunk out : List ℕ) (g : Going) (at filled : ℕ) : Type 0 where
-  pub ready : Ready K g
-  pub within : at ≤ length chunk
-  pub roomy : Roomy (g .tally) (length chunk - at)
-  pub size : length out ≡ rowRoom
-  pub room : filled ≤ length out
-
-pub judges-start : {K : Table} {chunk out : List ℕ} {g : Going} → Ready K g → Roomy (g .tally) (length chunk) → length out ≡ rowRoom → Judges K chunk out g 0 0
-judges-start h r e = record { ready = h; within = omega arith; roomy = roomy-less r (omega arith); size = e; room = omega arith }
-
-module _ {K : Table} {log : List ℕ} {from : ℕ} {g : Going} {buf : List ℕ} {place : ℕ} {r : Ran} {after : List ℕ} (t : Runs K log from g buf place r after) where
-  -- what a run leaves for the next chunk
-  pub run-done : Ready K (r .going) × Roomy (r .going .tally) 0
-  run-done = (t .ready, roomy-less (t .roomy) (omega arith))
-
-  -- the row of a kept cycle that had no room is the first of the next turn
-  pub judges-more : {text out : List ℕ} {n : ℕ} → length buf ≡ rowRoom → Put after 0 text n out → Judges K log out (r .going) (r .at) n
-  judges-more e p = record {
-    ready = t .ready;
-    within = t .within;
-    roomy = t .roomy;
-    size = put-length p ∙ run-length t ∙ e;
-    room = put-within p (omega arith);
+  -- the next block
+  pub reading-more : Prepared rows index → (ended : Bool) {r : Turn} {rest after : List ℕ} → Judged (tableIn rows index) g ended block have out r rest after
+      → (more : List ℕ) → length more ≡ length rest → (got : ℕ) → r .held + got ≤ length rest
+      → Reading rows index block₀ out₀ more after (r .going) (r .held + got) (turns + 1)
+  reading-more P ended J more e got h = record {
+    resumes = turn-resumes P (R .resumes) block have ended J;
+    roomy = turn-roomy P (R .resumes) block have ended J ((mostBlocks - (turns + 1)) * (mostBlock + 1))
+        (less-roomy (R .roomy) (omega (arith, R .within, R .same)));
+    within = omega (arith, e);
+    same = e ∙ put-length (J .held) ∙ R .same;
+    room = put-length (J .told) ∙ R .room;
   }

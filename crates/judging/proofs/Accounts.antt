@@ -1,16 +1,15 @@
 -- What is told of a log, along its play: the rows told on the way, and the row of a kept cycle that has no room with what is told from there,
 -- or the `sum` row alone.
-use Prim.Native.Nat.{ℕ, _+_, _-_, _≤_, _<_, zero-le}
+use Prim.Native.Nat.{ℕ, _+_, _-_, _≤_, _<_}
 use mathlib.Core.Bool.{true, false}
 use mathlib.Core.List.{List, [], _∷_, _++_, append-assoc}
 use mathlib.Core.Path.{_≡_, refl, sym, ap, subst⁻¹, _∙_}
+use mathlib.Core.Logic.{inl, inr}
 use native.Mathlib.Omega.{arith}
-use borrow.Author.Tests.{leb-true, leb-false}
+use borrow.Author.Tests.{leb-true, leb-false, lt-ltb}
 use lib.ListN.{length, length-append}
 use lib.Dec.{leb}
-use Rattle.text.specs.Parts.{splitOn}
 use Rattle.text.proofs.Picks.{cases, false-true}
-use Rattle.text.proofs.Parts.{parts-all, parts-cut}
 use Rattle.model.specs.Tests.{accepted}
 use Rattle.model.specs.Tables.{Table}
 use Rattle.model.specs.Rules.{refusal, next}
@@ -18,18 +17,20 @@ use Rattle.model.specs.Cycles.{Verdict, none, kept, dropped, verdict}
 use Rattle.model.specs.declared.State.{State}
 use Rattle.model.specs.declared.Line.{Line}
 use Rattle.model.specs.declared.Line.the-variants as line
-use Rattle.log.specs.Lines.{readStep}
+use Rattle.log.specs.Lines.{longestLine, readStep}
 use Rattle.report.specs.Rows.{cycleOf, cycleText, sumText}
 use Rattle.report.specs.declared.Cycle.{Cycle}
 use Rattle.tally.specs.Tallies.{tallied, sumOf}
-use Rattle.engine.specs.Play.{Played, told, stopped, telling, onVerdict, onLine, played, pieces, isClosed, Runs}
+use Rattle.engine.specs.Play.{Played, playedTo, stopped, telling, onVerdict, onLine, played, pieces, isClosed, Runs}
 use Rattle.tally.specs.declared.Tally.{Tally}
 use Rattle.engine.specs.declared.Stop.{Stop}
 use Rattle.engine.specs.declared.Stop.the-variants.{End, Refused, Closed}
 use Rattle.engine.specs.declared.Going.{Going}
 use Rattle.engine.specs.declared.Ran.{Ran}
+use Rattle.stream.proofs.Pieces.{followed, followed-none}
+use Rattle.stream.proofs.Lines.{Settled}
 use Rattle.judging.specs.Report.{linesIn, refusalOf}
-use Rattle.judging.proofs.Telling.{tellLines, tell, rowOf, tell-none, tell-bad, tell-refused, tell-accepted}
+use Rattle.judging.proofs.Telling.{tellLines, tell, verdictText, tell-none, tell-bad, tell-refused, tell-accepted}
 
 -- the row of a kept cycle that was not told for want of room
 abbrev pub pending : Stop → List ℕ
@@ -37,30 +38,15 @@ pending End = []
 pending (Refused n) = []
 pending (Closed k) = cycleText k
 
+-- there is none at the log's end or at a refusal
+pub none-pending : (w : Stop) (l : List ℕ) → isClosed w ≡ false → pending w ++ l ≡ l
+none-pending End l c = refl
+none-pending (Refused n) l c = refl
+none-pending (Closed k) l c = absurd (false-true (sym c))
+
 -- at the log's end or a refusal only the `sum` row is left to tell
 abbrev pub Ends : Table → State → Tally → List (List ℕ) → Stop → Type 0
 Ends K s c rest w = isClosed w ≡ false → tell K s c rest ≡ sumText (sumOf K s c (refusalOf w))
-
--- a text ends with a newline or is empty: nothing stands behind its last newline
-abbrev pub lastPart : List (List ℕ) → List ℕ
-lastPart [] = []
-lastPart (p ∷ []) = p
-lastPart (p ∷ q ∷ ps) = lastPart (q ∷ ps)
-
--- the pieces of a text with these behind them: the last piece goes on
-abbrev pub onLast : List ℕ → List (List ℕ) → List (List ℕ)
-onLast p [] = p ∷ []
-onLast p (q ∷ qs) = (p ++ q) ∷ qs
-
-abbrev pub followed : List (List ℕ) → List (List ℕ) → List (List ℕ)
-followed [] qs = qs
-followed (p ∷ []) qs = onLast p qs
-followed (p ∷ q ∷ ps) qs = p ∷ followed (q ∷ ps) qs
-
-followed-none : (ps : List (List ℕ)) → followed ps [] ≡ ps
-followed-none [] = refl
-followed-none (p ∷ []) = refl
-followed-none (p ∷ q ∷ ps) = ap (λ l. p ∷ l) (followed-none (q ∷ ps))
 
 tell-first : (K : Table) (s : State) (c : Tally) (l : Line) (p q : List ℕ) (ps qs : List (List ℕ)) → readStep p ≡ l
     → tell K s c (followed (p ∷ q ∷ ps) qs) ≡ tellLines K s c (l ∷ linesIn (followed (q ∷ ps) qs))
@@ -73,14 +59,19 @@ tell-first K s c l p q ps qs e = ap (tellLines K s c) (first ps qs ∙ ap (λ m.
     first (r ∷ ps) qs = refl
 
 -- the play of a log: what is told, whatever else follows, is the rows told on the way, the row of the cycle it stopped at, if it stopped at
--- one, and what is told from there on; at the end or at a refusal that is the `sum` row, at a refused line that has its newline whatever
+-- one, and what is told from there on; at the end or at a refusal that is the `sum` row, at a refused line that is settled whatever
 -- follows; at the end nothing is left; and a cycle that it stopped at has no room for its row
 pub record Account (K : Table) (s : State) (c : Tally) (room : ℕ) (ps : List (List ℕ)) (p : Played) : Type 0 where
   pub on : (qs : List (List ℕ)) → tell K s c (followed ps qs) ≡ p .text ++ (pending (p .stop) ++ tell K (p .state) (p .tally) (followed (p .rest) qs))
   pub ends : Ends K (p .state) (p .tally) (p .rest) (p .stop)
-  pub stays : lastPart ps ≡ [] → (n : ℕ) → p .stop ≡ Refused n → (qs : List (List ℕ)) → tell K (p .state) (p .tally) (followed (p .rest) qs) ≡ sumText (sumOf K (p .state) (p .tally) n)
+  pub stays : Settled ps → (n : ℕ) → p .stop ≡ Refused n → (qs : List (List ℕ)) → tell K (p .state) (p .tally) (followed (p .rest) qs) ≡ sumText (sumOf K (p .state) (p .tally) n)
   pub done : p .stop ≡ End → (q : List ℕ) (qs : List (List ℕ)) → followed (p .rest) (q ∷ qs) ≡ q ∷ qs
   pub short : (k : Cycle) → p .stop ≡ Closed k → room < length (p .text) + length (cycleText k)
+
+-- a line over 63 bytes with its newline is no step
+long-bad : (p q : List ℕ) → longestLine ≤ length p → readStep (p ++ q) ≡ line.Bad
+unfolding readStep
+long-bad p q h = let l : longestLine < length (p ++ q) + 1 = omega (arith, length-append p q) in rw (lt-ltb _ _ l)
 
 -- ways to stop that are unlike
 not-refused : {P : Type 0} {n : ℕ} → End ≡ Refused n → P
@@ -96,7 +87,7 @@ module _ (K : Table) where
   at-end s c room ps f e = record { on = λ qs. refl; ends = λ h. e; stays = λ l n q. not-refused q; done = λ h. f; short = λ k q. not-closed refl (sym q) }
 
   at-refusal : (s : State) (c : Tally) (room : ℕ) (ps : List (List ℕ)) (n : ℕ) → tell K s c ps ≡ sumText (sumOf K s c n)
-      → (lastPart ps ≡ [] → (qs : List (List ℕ)) → tell K s c (followed ps qs) ≡ sumText (sumOf K s c n)) → Account K s c room ps (stopped s c (Refused n) ps)
+      → (Settled ps → (qs : List (List ℕ)) → tell K s c (followed ps qs) ≡ sumText (sumOf K s c n)) → Account K s c room ps (stopped s c (Refused n) ps)
   at-refusal s c room ps n e f = record {
     on = λ qs. refl;
     ends = λ h. e;
@@ -147,7 +138,7 @@ module _ (K : Table) where
     }
 
   on-verdict : (v : Verdict) (s : State) (c : Tally) (room : ℕ) (w : State) (d : Tally) (p q : List ℕ) (ps : List (List ℕ)) (go : ℕ → Played)
-      → ((qs : List (List ℕ)) → tell K s c (followed (p ∷ q ∷ ps) qs) ≡ rowOf v ++ tell K w d (followed (q ∷ ps) qs)) → ((n : ℕ) → Account K w d n (q ∷ ps) (go n))
+      → ((qs : List (List ℕ)) → tell K s c (followed (p ∷ q ∷ ps) qs) ≡ verdictText v ++ tell K w d (followed (q ∷ ps) qs)) → ((n : ℕ) → Account K w d n (q ∷ ps) (go n))
       → Account K s c room (p ∷ q ∷ ps) (onVerdict v w d room (q ∷ ps) go)
   on-verdict none s c room w d p q ps go e t = at-step e (t room)
   on-verdict (kept r) s c room w d p q ps go e t =
@@ -170,19 +161,24 @@ module _ (K : Table) where
       (go (next K s x) (tallied K s x c))))
       (λ h. rw h (at-line s c room (line.Is x) p q ps (refusal K s x) e (λ ls. tell-refused K s c x ls h)))
 
-  account : (ps : List (List ℕ)) (s : State) (c : Tally) (room : ℕ) → Account K s c room ps (played K s c room ps)
+  -- what is too long for a line is none, whatever follows
+  at-long : (s : State) (c : Tally) (b : ℕ) (p : List ℕ) → Settled ((b ∷ p) ∷ []) → (qs : List (List ℕ)) → tell K s c (followed ((b ∷ p) ∷ []) qs) ≡ sumText (sumOf K s c 11)
+  unfolding tell linesIn
+  at-long s c b p (inl e) qs = let z : _≡_ {A = ℕ} 0 1 = cc in absurd (omega arith)
+  at-long s c b p (inr h) [] = tell-bad K s c []
+  at-long s c b p (inr h) (q ∷ []) = tell-bad K s c []
+  at-long s c b p (inr h) (q ∷ r ∷ qs) = rw (long-bad (b ∷ p) q h) (tell-bad K s c (linesIn (r ∷ qs)))
+
+  pub account : (ps : List (List ℕ)) (s : State) (c : Tally) (room : ℕ) → Account K s c room ps (played K s c room ps)
   unfolding tell linesIn played
   account [] s c room = at-end s c room [] (λ q qs. refl) (tell-none K s c)
   account ([] ∷ []) s c room = at-end s c room ([] ∷ []) (λ q qs. refl) (tell-none K s c)
-  account ((b ∷ p) ∷ []) s c room = at-refusal s c room ((b ∷ p) ∷ []) 11 (tell-bad K s c []) (λ l. absurd (filled l))
-    where
-      filled : b ∷ p ≡ [] → ⊥
-      filled l = let z : _≡_ {A = ℕ} 0 1 = cc in omega arith
+  account ((b ∷ p) ∷ []) s c room = at-refusal s c room ((b ∷ p) ∷ []) 11 (tell-bad K s c []) (at-long s c b p)
   account (p ∷ q ∷ ps) s c room = on-line (readStep p) s c room p q ps refl (account (q ∷ ps))
 
   -- what is told of a run over a log
   module _ {log : List ℕ} {from : ℕ} {g : Going} {buf : List ℕ} {place : ℕ} {r : Ran} {after : List ℕ} (h : Runs K log from g buf place r after) where
-    pub run-account : Account K (g .state) (g .tally) (length buf - place) (pieces log from) (told (h .text) (r .going .state) (r .going .tally) (r .stop) (pieces log (r .at)))
+    pub run-account : Account K (g .state) (g .tally) (length buf - place) (pieces log from) (playedTo (h .text) (r .going .state) (r .going .tally) (r .stop) (pieces log (r .at)))
     run-account = subst⁻¹ (Account K (g .state) (g .tally) (length buf - place) (pieces log from)) (h .played) (account (pieces log from) (g .state) (g .tally) (length buf - place))
 
     -- with nothing behind it
@@ -190,7 +186,3 @@ module _ (K : Table) where
     run-tells =
         ap (tell K (g .state) (g .tally)) (sym (followed-none (pieces log from))) ∙ run-account .on []
         ∙ ap (λ l. h .text ++ (pending (r .stop) ++ tell K (r .going .state) (r .going .tally) l)) (followed-none (pieces log (r .at)))
-
--- a text has at least one piece
-pub split-some : (a : List ℕ) → (p : List ℕ) × (ps : List (List ℕ)) × (splitOn 10 a ≡ p ∷ ps)
-split-some a = (_, _, sym (parts-all 10 a) ∙ parts-cut 10 a 0 zero-le)

@@ -18,17 +18,18 @@ use Rattle.text.proofs.Parts.{join-split}
 use Rattle.text.proofs.Words.{word-read}
 use Rattle.text.proofs.Numbers.{digits-read, digits-short, length-digits, width-within}
 use Rattle.text.proofs.Sets.{set-text-read, length-set-text}
-use Rattle.model.specs.Tests.{one, each, accepted}
+use Rattle.model.specs.Tests.{one, each, sum, accepted}
 use Rattle.model.specs.Limits.{mostTasks, mostTicks, ceiling}
 use Rattle.model.specs.Tables.{Table}
 use Rattle.model.specs.Rows.{wellformed}
-use Rattle.model.specs.States.{fresh}
+use Rattle.model.specs.States.{fresh, taskAt}
 use Rattle.model.specs.Rules.{refusal, next}
-use Rattle.model.specs.Logs.{allAccepted}
-use Rattle.model.specs.Cycles.{KeptRow, SumRow, Verdict, none, kept, dropped, keptRow, keeps, verdict, isFm, isVerdict, opens, openedIn, keptIn, drops, droppedIn, stepsOf, stopOn, reportOn, report}
+use Rattle.model.specs.Logs.{allAccepted, reached}
+use Rattle.model.specs.Cycles.{KeptRow, SumRow, Verdict, none, kept, dropped, keptRow, keeps, verdict, isFm, isVerdict, opens, openedIn, keptIn, drops, droppedIn, managing, stepsOf, stopOn, reportOf, report}
 use Rattle.model.specs.declared.State.{State}
+use Rattle.model.specs.declared.TaskStep.the-variants.{St, Fm}
 use Rattle.model.specs.declared.Step.{Step}
-use Rattle.model.specs.declared.Step.the-variants.{Wait, St, Sm, Lm, Ia, Ea, Cx, Fa, Fm}
+use Rattle.model.specs.declared.Step.the-variants.{Wait, Sm, OfTask, OfAct}
 use Rattle.model.specs.declared.Line.{Line}
 use Rattle.model.specs.declared.Line.the-variants.{Is, Bad}
 use Rattle.model.proofs.Tests.{and-both, each-at}
@@ -37,7 +38,8 @@ use Rattle.model.proofs.Soundness.{Sound, sound-of, fresh-shaped, fresh-sound, 
 use Rattle.model.proofs.Accepted.{fm-goes}
 use Rattle.model.proofs.StepsKeep.{step-keeps}
 use Rattle.model.proofs.Verdicts.{verdict-at-fm}
-use Rattle.model.proofs.Balance.{balance}
+use Rattle.model.proofs.Sums.{sum-bound}
+use Rattle.model.proofs.Balance.{balance, balance-from}
 use Rattle.model.proofs.Reports.{steps-accepted}
 use Rattle.log.specs.Lines.{stepWords, aNumber, aSet, readStep}
 use Rattle.log.proofs.Words.{nine, nine-words}
@@ -45,7 +47,8 @@ use Rattle.log.proofs.Shapes.{either, Shapes, shaped}
 use Rattle.tally.specs.Tallies.{keepsOne}
 use Rattle.report.specs.Rows.{numbersText, lineText, sumWord, keptText, rowsText, sumNumbers, sumText}
 use Rattle.judging.specs.Report.{linesIn, logText, surely}
-use Rattle.judging.proofs.Telling.{kept-more, rowOf, rows-more}
+use Rattle.tally.specs.declared.Tally.{Tally}
+use Rattle.judging.proofs.Telling.{sumAfter, tell, kept-more, verdictText, rows-more}
 use Rattle.report.proofs.Lines.{line-length, numbers-most, head-length}
 
 -- a row's numbers are small enough for 75 bytes
@@ -81,19 +84,15 @@ cycle-small K F s S t h =
     record { task = omega (arith, F .fits .0); cycle = omega arith; opened = omega arith; closed = date; missed = omega arith; longest = x .longest }
 
 -- so the row that an accepted step gives has at most 75 bytes
-step-row : (K : Table) → Formed K → (s : State) → Sound K s → (x : Step) → refusal K s x ≡ 0 → length (rowOf (verdict K s x)) ≤ 75 * keepsOne (verdict K s x)
+step-row : (K : Table) → Formed K → (s : State) → Sound K s → (x : Step) → refusal K s x ≡ 0 → length (verdictText (verdict K s x)) ≤ 75 * keepsOne (verdict K s x)
 unfolding verdict refusal
 step-row K F s S (Wait d) ok = omega arith
-step-row K F s S (St t) ok = omega arith
 step-row K F s S (Sm t n r) ok = omega arith
-step-row K F s S (Lm t a) ok = omega arith
-step-row K F s S (Ia a) ok = omega arith
-step-row K F s S (Ea a c) ok = omega arith
-step-row K F s S (Cx a) ok = omega arith
-step-row K F s S (Fa a p) ok = omega arith
-step-row K F s S (Fm t) ok = go (keeps K s t)
+step-row K F s S (OfTask t St) ok = omega arith
+step-row K F s S (OfAct a k) ok = omega arith
+step-row K F s S (OfTask t Fm) ok = go (keeps K s t)
   where
-    go : (b : Bool) → length (rowOf (cond b (kept (keptRow s t)) dropped)) ≤ 75 * keepsOne (cond b (kept (keptRow s t)) dropped)
+    go : (b : Bool) → length (verdictText (cond b (kept (keptRow s t)) dropped)) ≤ 75 * keepsOne (cond b (kept (keptRow s t)) dropped)
     go true = row-length (keptRow s t) (cycle-small K F s S t (fm-goes K s t ok .inT))
     go false = omega arith
 
@@ -106,7 +105,7 @@ rows-length K F (x ∷ xs) s S ok =
     let acc : refusal K s x ≡ 0 = eqb→eq _ _ (now .0) in
     let v = verdict K s x in
     let rs = keptIn K (next K s x) xs in
-    rw (rows-more v rs) (omega (arith, length-append (rowOf v) (rowsText rs), step-row K F s S x acc, kept-more v 0 rs, rows-length K F xs (next K s x) (step-keeps K F s S x acc) (now .1)))
+    rw (rows-more v rs) (omega (arith, length-append (verdictText v) (rowsText rs), step-row K F s S x acc, kept-more v 0 rs, rows-length K F xs (next K s x) (step-keeps K F s S x acc) (now .1)))
 
 -- how long the fields and the word of a step's line are
 number-length : (p : List ℕ) (v : ℕ) → aNumber p ≡ number.Is v → 1 ≤ length p
@@ -179,13 +178,40 @@ steps-cost K (p ∷ q ∷ ps) s = rw length-append (go (readStep p) refl (λ w. 
         (λ a. rw a (more x (stepsOf K (next K s x) (linesIn (q ∷ ps))) (shaped costs x p e) (f (next K s x))))
         (λ a. rw a (omega arith))
 
+-- a cycle that is kept takes 44 bytes of the log at least, but for the cycles that are open where it begins: their `sm` stands before it
+kept-cost : (K : Table) (s : State) (log : List ℕ) (begun end : ℕ)
+    → openedIn (stepsOf K s (linesIn (splitOn 10 log))) + begun ≡ length (keptIn K s (stepsOf K s (linesIn (splitOn 10 log)))) + droppedIn K s (stepsOf K s (linesIn (splitOn 10 log))) + end
+    → 44 * length (keptIn K s (stepsOf K s (linesIn (splitOn 10 log)))) ≤ length log + 39 * begun
+kept-cost K s log begun end e = let h = steps-cost K (splitOn 10 log) s in omega (arith, ap length (join-split 10 log))
+
+-- what is told of a log from a sound state on: 193 bytes at most and 75 for each kept cycle
+module _ (K : Table) (wf : T (wellformed K)) (s : State) (S : Sound K s) (c : Tally) (log : List ℕ) where
+  few-managing : managing K s ≤ mostTasks
+  unfolding managing
+  few-managing = omega (arith, sum-bound (K .ntasks) 1 (λ t. one (taskAt s t .managing)) (λ t h. one-most (taskAt s t .managing)), formed K wf .fits .0)
+    where
+      one-most : (b : Bool) → one b ≤ 1
+      one-most true = omega arith
+      one-most false = omega arith
+
+  pub tell-bound : length (tell K s c (splitOn 10 log)) ≤ 193 + 75 * ((length log + 624) / 44)
+  unfolding tell
+  tell-bound =
+      let ls = linesIn (splitOn 10 log) in
+      let xs = stepsOf K s ls in
+      let rows = rows-length K (formed K wf) xs s S (steps-accepted K s ls) in
+      let sum = sum-length (sumAfter K s c xs (stopOn K s ls)) in
+      let cost = kept-cost K s log (managing K s) _ (balance-from K (formed K wf) xs s S (steps-accepted K s ls)) in
+      simp length-append (omega (arith, few-managing))
+
 module _ (K : Table) (wf : T (wellformed K)) (log : List ℕ) where
   -- a kept cycle takes 44 bytes of the log at least
   pub kept-bound : 44 * length (keptIn K fresh (stepsOf K fresh (linesIn (splitOn 10 log)))) ≤ length log
   kept-bound =
       let ls = linesIn (splitOn 10 log) in
-      let h = steps-cost K (splitOn 10 log) fresh in
-      omega (arith, balance K wf (stepsOf K fresh ls) (steps-accepted K fresh ls), ap length (join-split 10 log))
+      let xs = stepsOf K fresh ls in
+      let b = balance K wf xs (steps-accepted K fresh ls) in
+      omega (arith, kept-cost K fresh log 0 (managing K (reached K fresh xs)) (omega arith))
 
   -- the report has 202 bytes at most and 75 for each kept cycle
   pub text-bound : length (logText K log) ≤ 202 + 75 * (length log / 44)
@@ -194,7 +220,7 @@ module _ (K : Table) (wf : T (wellformed K)) (log : List ℕ) where
       let ls = linesIn (splitOn 10 log) in
       let xs = stepsOf K fresh ls in
       let rows = rows-length K (formed K wf) xs fresh (sound-of K fresh fresh-shaped (fresh-sound K)) (steps-accepted K fresh ls) in
-      let sum = sum-length (reportOn K fresh xs (stopOn K fresh ls) .sum) in
+      let sum = sum-length (reportOf K fresh xs (stopOn K fresh ls) .sum) in
       simp length-append (omega (arith, kept-bound, head-length))
 
   -- a buffer that surely holds a report holds it

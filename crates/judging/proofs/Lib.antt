@@ -3,6 +3,6 @@ pub mod Accounts
 pub mod Bounds
 pub mod Mission
 pub mod Chunks
-pub mod Cuts
 pub mod Reporting
 pub mod Unique
+pub mod Printed

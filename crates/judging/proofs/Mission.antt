@@ -23,7 +23,6 @@ use Rattle.model.proofs.Demand.{DemandThree, demand-three}
 use Rattle.model.proofs.Reports.{Through, StoppedAt, steps-accepted, report-balance, report-bound, stop-exact}
 use Rattle.table.specs.Tables.{tableOf}
 use Rattle.table.specs.Texts.{readTable}
-use Rattle.table.specs.declared.Answer.the-variants.{Fine}
 use Rattle.table.proofs.Trips.{read-wellformed}
 use Rattle.judging.specs.Report.{linesIn, reportText, logText, reportOn}
 use Rattle.judging.proofs.Bounds.{text-bound}
@@ -95,7 +94,7 @@ pub record Mission (table log : List ℕ) : Type 0 where
   pub demand : (ys zs : List Step) → stepsDone table log ≡ ys ++ zs → DemandThree (tableSaid table) fresh ys
 
 -- a text that was read is a well-formed table's
-pub fine-wellformed : (table : List ℕ) → readTable table .answer ≡ Fine → T (wellformed (tableSaid table))
+pub fine-wellformed : (table : List ℕ) → readTable table .numbers ≡ [] → T (wellformed (tableSaid table))
 fine-wellformed table e = true-T _ (read-wellformed table (readTable table .table) (rw e refl))
 
 -- what a report's last two numbers say
@@ -109,7 +108,7 @@ module _ (K : Table) (s : State) (ls : List Line) where
   line-refused h = (⊎-elim (λ t. absurd (h (t .number))) (λ t. t) (stop-exact K s ls), sym (line-some (stopOn K s ls) (length (stepsOf K s ls)) h))
 
 -- the report on a table that is read and any log
-pub mission : (table log : List ℕ) → readTable table .answer ≡ Fine → Mission table log
+pub mission : (table log : List ℕ) → readTable table .numbers ≡ [] → Mission table log
 unfolding reportOn logText report
 mission table log e =
     let K = tableSaid table in

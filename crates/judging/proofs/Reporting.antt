@@ -12,13 +12,12 @@ use denote.Enum.Declared
 use types.Run.{OneOf}
 use borrow.Author.Tests.{le-leb, lt-leb, leb-true, leb-false, not-true, not-false}
 use Rattle.text.specs.Put.{Put}
-use Rattle.text.proofs.Picks.{false-true}
 use Rattle.text.proofs.Puts.{put-fits}
 use Rattle.model.specs.Tables.{Table}
 use Rattle.model.specs.States.{fresh}
 use Rattle.model.specs.Cycles.{refusedReport}
 use Rattle.model.proofs.Tests.{true-T}
-use Rattle.table.specs.Checks.{checkTable}
+use Rattle.table.specs.Checks.{Said, numbersOf, says, Passes}
 use Rattle.table.specs.Tables.{tableOf}
 use Rattle.table.specs.Texts.{readTable}
 use Rattle.table.specs.declared.Read.{Read}
@@ -42,7 +41,7 @@ use Rattle.engine.proofs.Stop as kinds
 use Rattle.engine.proofs.Starting.{fresh-ready, roomy}
 use Rattle.judging.specs.Report.{reportText, logText, reportOn, refusalOf, surely}
 use Rattle.judging.proofs.Telling.{tell, log-text}
-use Rattle.judging.proofs.Accounts.{pending, run-account, run-tells}
+use Rattle.judging.proofs.Accounts.{pending, none-pending, run-account, run-tells}
 use Rattle.judging.proofs.Bounds.{surely-holds}
 
 -- a text that does not fit is not written
@@ -63,12 +62,6 @@ not-closed (Closed k) (inr e) = absurd (omega arith)
 -- and one that stopped at a cycle did
 is-closed : {w : Stop} {k : Cycle} → w ≡ Closed k → T (isClosed w)
 is-closed c = subst⁻¹ (λ w. T (isClosed w)) c tt
-
--- no cycle waits for room where it did not
-none-pending : (w : Stop) (l : List ℕ) → isClosed w ≡ false → pending w ++ l ≡ l
-none-pending End l c = refl
-none-pending (Refused n) l c = refl
-none-pending (Closed k) l c = absurd (false-true (sym c))
 
 -- the report on a refused table
 module _ (n l : ℕ) (ns : List ℕ) (e : ns ≡ sumNumbers (refusedReport n l .sum)) (w : ℕ) (q : w ≡ 3 + length (numbersText ns)) where
@@ -227,10 +220,10 @@ pub log-surely : {rows index : List ℕ} → Prepared rows index → (log : List
 log-surely {rows} {index} p log room fit e y = surely-holds (tableIn rows index) (true-T _ (p .formed)) log room (true-T _ (sym e ∙ not-false fit y))
 
 -- the report on a table's text and a log
-module _ (s log : List ℕ) (r : Read) (e : r ≡ readTable s) where
+module _ (s log : List ℕ) (r : Read) (e : says r ≡ readTable s) where
   -- a table that was read is accepted
-  pub read-fine : r .answer ≡ Fine → checkTable (r .table) .answer ≡ Fine
-  read-fine u = ap (λ (x : Read). x .answer) (read-checks s (r .table) (sym e ∙ fine-accepts r u))
+  pub read-fine : r .answer ≡ Fine → Passes (r .table)
+  read-fine u = ap (λ (x : Said). x .numbers) (read-checks s (r .table) (sym e ∙ fine-accepts (says r) (ap numbersOf u)))
 
   module _ {buf after : List ℕ} {n : ℕ} where
     pub judged-fine : r .answer ≡ Fine → Put buf 0 (logText (tableOf (r .table)) log) n after → Put buf 0 (reportOn s log) n after

@@ -11,7 +11,7 @@ use Rattle.model.specs.Tables.{Table}
 use Rattle.model.specs.States.{fresh}
 use Rattle.model.specs.Rules.{refusal, next}
 use Rattle.model.specs.Logs.{reached, isWait, most}
-use Rattle.model.specs.Cycles.{KeptRow, SumRow, Verdict, none, kept, dropped, verdict, withKept, keptIn, drops, droppedIn, openedIn, opens, stepsOf, stopOn, reportOn, report}
+use Rattle.model.specs.Cycles.{KeptRow, SumRow, Verdict, none, kept, dropped, verdict, withKept, keptIn, drops, droppedIn, openedIn, opens, stepsOf, stopOn, reportOf, report}
 use Rattle.model.specs.declared.State.{State}
 use Rattle.model.specs.declared.Step.{Step}
 use Rattle.model.specs.declared.Line.{Line}
@@ -75,12 +75,12 @@ unfolding reached
 sum-more K s c x xs n = ap (λ d. sumOf K (reached K (next K s x) xs) d n) (tally-more K s c x xs)
 
 -- the row that a verdict gives
-abbrev pub rowOf : Verdict → List ℕ
-rowOf none = []
-rowOf (kept r) = keptText r
-rowOf dropped = []
+abbrev pub verdictText : Verdict → List ℕ
+verdictText none = []
+verdictText (kept r) = keptText r
+verdictText dropped = []
 
-pub rows-more : (v : Verdict) (rs : List KeptRow) → rowsText (withKept v rs) ≡ rowOf v ++ rowsText rs
+pub rows-more : (v : Verdict) (rs : List KeptRow) → rowsText (withKept v rs) ≡ verdictText v ++ rowsText rs
 unfolding rowsText
 rows-more none rs = refl
 rows-more (kept r) rs = refl
@@ -102,22 +102,22 @@ tell-refused K s c x ls e = rw e (ap sumText (sum-none K s c (refusal K s x)))
 
 steps-more : (K : Table) (s : State) (c : Tally) (x : Step) (xs : List Step) (n : ℕ)
     → rowsText (keptIn K s (x ∷ xs)) ++ sumText (sumAfter K s c (x ∷ xs) n)
-    ≡ rowOf (verdict K s x) ++ (rowsText (keptIn K (next K s x) xs) ++ sumText (sumAfter K (next K s x) (tallied K s x c) xs n))
+    ≡ verdictText (verdict K s x) ++ (rowsText (keptIn K (next K s x) xs) ++ sumText (sumAfter K (next K s x) (tallied K s x c) xs n))
 unfolding keptIn
 steps-more K s c x xs n =
     let v = verdict K s x in
     let rs = keptIn K (next K s x) xs in
     ap (λ l. l ++ sumText (sumAfter K s c (x ∷ xs) n)) (rows-more v rs)
-    ∙ append-assoc (rowOf v) (rowsText rs) (sumText (sumAfter K s c (x ∷ xs) n))
-    ∙ ap (λ r. rowOf v ++ (rowsText rs ++ sumText r)) (sum-more K s c x xs n)
+    ∙ append-assoc (verdictText v) (rowsText rs) (sumText (sumAfter K s c (x ∷ xs) n))
+    ∙ ap (λ r. verdictText v ++ (rowsText rs ++ sumText r)) (sum-more K s c x xs n)
 
 pub tell-accepted : (K : Table) (s : State) (c : Tally) (x : Step) (ls : List Line) → accepted (refusal K s x) ≡ true
-    → tellLines K s c (line.Is x ∷ ls) ≡ rowOf (verdict K s x) ++ tellLines K (next K s x) (tallied K s x c) ls
+    → tellLines K s c (line.Is x ∷ ls) ≡ verdictText (verdict K s x) ++ tellLines K (next K s x) (tallied K s x c) ls
 unfolding stepsOf stopOn
 tell-accepted K s c x ls e = rw e (steps-more K s c x (stepsOf K (next K s x) ls) (stopOn K (next K s x) ls))
 
 -- from the fresh state on, with nothing counted, the `sum` row is the report's
-sum-fresh : (K : Table) (xs : List Step) (n : ℕ) → sumAfter K fresh noTally xs n ≡ reportOn K fresh xs n .sum
+sum-fresh : (K : Table) (xs : List Step) (n : ℕ) → sumAfter K fresh noTally xs n ≡ reportOf K fresh xs n .sum
 sum-fresh K xs n =
     let a : (k : ℕ) → 0 + k ≡ k = λ k. omega arith in
     let b : max (max 0 (most 0 xs)) 0 ≡ most 0 xs = omega arith in

@@ -2,6 +2,7 @@
 use Prim.Native.Nat.{ℕ, _-_, _/_}
 use mathlib.Core.Bool.{Bool}
 use mathlib.Core.List.{List, [], _∷_, _++_}
+use lib.ListN.{getD, take, drop}
 use lib.Dec.{leb}
 use Rattle.text.specs.Parts.{splitOn}
 use Rattle.model.specs.Tests.{_and_}
@@ -11,12 +12,11 @@ use Rattle.model.specs.Tables.{Table}
 use Rattle.model.specs.declared.Line.{Line}
 use Rattle.model.specs.declared.Line.the-variants.{Bad}
 use Rattle.log.specs.Lines.{readStep}
+use Rattle.table.specs.Checks.{Said}
 use Rattle.table.specs.Tables.{tableOf}
 use Rattle.table.specs.Texts.{readTable}
-use Rattle.table.specs.declared.Read.{Read}
 use Rattle.table.specs.declared.Table as rows
-use Rattle.table.specs.declared.Answer.{Answer}
-use Rattle.table.specs.declared.Answer.the-variants.{Fine, Refused}
+use Rattle.stream.specs.Cut.{cutOf}
 use Rattle.report.specs.Rows.{headText, rowsText, sumText}
 use Rattle.engine.specs.declared.Stop.{Stop}
 use Rattle.engine.specs.declared.Stop.the-variants as stop
@@ -40,16 +40,20 @@ unfoldable pub logText : Table → List ℕ → List ℕ
 logText K log = reportText (report K fresh (linesIn (splitOn 10 log)))
 
 -- "A refused table gives `cycles 1` and a `sum` row of zeros but for the last two numbers."
-abbrev pub answerText : rows.Table → List ℕ → Answer → List ℕ
-answerText t log Fine = logText (tableOf t) log
-answerText t log (Refused n l) = reportText (refusedReport n l)
+abbrev pub answerText : rows.Table → List ℕ → List ℕ → List ℕ
+answerText t log [] = logText (tableOf t) log
+answerText t log (n ∷ ls) = reportText (refusedReport n (getD ls 0 0))
 
-abbrev pub readText : Read → List ℕ → List ℕ
-readText r log = answerText (r .table) log (r .answer)
+abbrev pub readText : Said → List ℕ → List ℕ
+readText r log = answerText (r .table) log (r .numbers)
 
 -- the report on a table's text and a log
 unfoldable pub reportOn : List ℕ → List ℕ → List ℕ
 reportOn table log = readText (readTable table) log
+
+-- the report on the program's input: "the table up to and with the first line that begins `end` and a tab .., then the log"
+abbrev pub inputReport : List ℕ → List ℕ
+inputReport s = reportOn (take (cutOf s) s) (drop (cutOf s) s)
 
 -- the refusal that a run stopped at, 0 for none
 abbrev pub refusalOf : Stop → ℕ

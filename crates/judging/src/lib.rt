@@ -3,17 +3,14 @@ ghost use mathlib.Core.Path.{_≡_};
 ghost use Prim.Native.Nat.{_≤_};
 ghost use lib.ListN.{length};
 ghost use lib.Dec.{leb};
-ghost use Rattle.text.specs.Parts.{splitOn};
 ghost use Rattle.text.specs.Put.{Put};
 ghost use Rattle.model.specs.Cycles.{refusedReport};
 ghost use Rattle.prepared.specs.Prepared.{tableIn, Prepared};
-ghost use Rattle.table.specs.Checks.{checkTable};
+ghost use Rattle.table.specs.Checks.{Passes};
 ghost use Rattle.table.specs.Tables.{tableOf};
-ghost use Rattle.table.specs.declared.Answer.the-variants.{Fine};
 ghost use Rattle.tally.specs.Tallies.{mostCount, sumOf};
 ghost use Rattle.report.specs.Rows.{sumNumbers, sumText};
 ghost use Rattle.judging.specs.Report.{reportText, logText, reportOn, refusalOf, surely};
-ghost use Rattle.judging.specs.Cut.{isEnd, endIn, cutOf, linesEnd, wholeLines};
 use engine::Going;
 use engine::Stop;
 use table::Answer;
@@ -147,7 +144,7 @@ fn surely_fits(room: usize, bytes: usize) -> bool
 
 // The report on a log, judged against an accepted table; nothing is written where it does not fit.
 fn judge_log(t: Table, log: &[u8], report: &mut [u8]) -> usize
-    requires { ⌜ checkTable t .answer ≡ Fine ⌝ }
+    requires { ⌜ Passes t ⌝ }
     ensures { λ r. ⌜ Put (now (report .entry)) 0 (logText (tableOf t) (now (log .entry))) r (now (report .exit)) ⌝ }
 {
     let index = preparing::index_of(t);
@@ -161,7 +158,7 @@ fn judge_log(t: Table, log: &[u8], report: &mut [u8]) -> usize
 }
 
 // The recorder's call: judges a log against a table's text and writes the report. Answers its length, or 0 where it does not fit; the
-// buffer is then unchanged, and so are the bytes past a report.
+// buffer is then unchanged, and so are the bytes past a report. No report is empty, so 0 says that and nothing else.
 #[no_mangle]
 pub extern "C" fn judge(table: &[u8], log: &[u8], report: &mut [u8]) -> usize
     ensures { λ r. ⌜ Put (now (report .entry)) 0 (reportOn (now (table .entry)) (now (log .entry))) r (now (report .exit)) ⌝ }
@@ -173,67 +170,4 @@ pub extern "C" fn judge(table: &[u8], log: &[u8], report: &mut [u8]) -> usize
         Answer::Fine => judge_log(t, log, report),
         Answer::Refused(n, line) => put_refused(report, n, line),
     }
-}
-
-// Does a line begin `end` and a tab?
-fn is_end(line: &[u8]) -> bool
-    ensures { λ r. ⌜ r ≡ isEnd (now (line .entry)) ⌝ }
-{
-    if line.len() < 4 {
-        return false;
-    }
-    text::same(&line[..4], b"end\t")
-}
-
-// Where the line that ends the table ends, or else the place given.
-fn table_end(s: &[u8], most: usize) -> usize
-    ensures { λ r. ⌜ r ≡ endIn 0 (splitOn 10 (now (s .entry))) most ⌝ }
-{
-    let mut at = 0;
-    while at < s.len() {
-        let e = text::next_byte(s, at, text::NEWLINE);
-        if s.len() <= e {
-            return most;
-        }
-        if is_end(&s[at..e]) {
-            return e + 1;
-        }
-        at = e + 1;
-    }
-    most
-}
-
-// How many bytes of the input are the table.
-pub fn cut_at(s: &[u8]) -> usize
-    ensures { λ r. ⌜ r ≡ cutOf (now (s .entry)) ⌝ }
-{
-    if s.len() <= table::LONGEST {
-        return table_end(s, s.len());
-    }
-    table_end(&s[..table::LONGEST], table::LONGEST + 1)
-}
-
-// How many bytes there are up to and with the last newline.
-fn lines_end(s: &[u8]) -> usize
-    ensures { λ r. ⌜ r ≡ linesEnd (now (s .entry)) ⌝ }
-{
-    let mut end = s.len();
-    while 0 < end {
-        if s[end - 1] == text::NEWLINE {
-            return end;
-        }
-        end -= 1;
-    }
-    0
-}
-
-// How many bytes of a part of a log are whole lines. What follows is left for later, unless it is too long to be a line.
-pub fn whole_lines(s: &[u8]) -> usize
-    ensures { λ r. ⌜ r ≡ wholeLines (now (s .entry)) ⌝ }
-{
-    let end = lines_end(s);
-    if s.len() - end < log::LONGEST_LINE {
-        return end;
-    }
-    s.len()
 }

@@ -16,25 +16,35 @@ use Rattle.text.proofs.Picks.{cases, order, picked, passed}
 use Rattle.text.proofs.Numbers.{number-below}
 use Rattle.text.proofs.Sets.{set-text-read}
 use Rattle.model.specs.Tables.{targetOf}
+use Rattle.model.specs.declared.Place.{Place}
 use Rattle.model.specs.declared.Place.the-variants.{Ether, Codel}
+use Rattle.model.specs.declared.ActStep.{ActStep}
+use Rattle.model.specs.declared.ActStep.the-variants.{Lm, Ia, Ea, Cx, Fa}
 use Rattle.model.specs.declared.Step.{Step}
-use Rattle.model.specs.declared.Step.the-variants.{Wait, St, Sm, Lm, Ia, Ea, Cx, Fa, Fm}
+use Rattle.model.specs.declared.Step.the-variants.{Wait, Sm, OfTask, OfAct}
 use Rattle.model.specs.declared.Line.the-variants.{Is}
 use Rattle.log.specs.Lines.{longestLine, aSet, aPlace, readStep, readLine}
 use Rattle.log.proofs.Shapes.{no-step, either, Shapes, shaped}
 
--- the numbers of a step are below 10 ^ 10, its sets below 2 ^ 64
+-- the numbers of a step are below 10 ^ 10, its sets below 2 ^ 64, and no line says `ea` to ether: of a target, of what an activity's step
+-- does, of any step
+abbrev pub TargetWithin : Place → Type 0
+TargetWithin Ether = Unit {0}
+TargetWithin (Codel c) = c < 10 ^ 10
+
+abbrev pub ActWithin : ActStep → Type 0
+ActWithin (Lm t) = t < 10 ^ 10
+ActWithin Ia = Unit {0}
+ActWithin (Ea Ether) = ⊥
+ActWithin (Ea (Codel c)) = c < 10 ^ 10
+ActWithin Cx = Unit {0}
+ActWithin (Fa p) = TargetWithin p
+
 abbrev pub Within : Step → Type 0
 Within (Wait d) = d < 10 ^ 10
-Within (St t) = t < 10 ^ 10
 Within (Sm t n r) = (t < 10 ^ 10) × (n < 2 ^ 64) × (r < 2 ^ 64)
-Within (Lm t a) = (t < 10 ^ 10) × (a < 10 ^ 10)
-Within (Ia a) = a < 10 ^ 10
-Within (Ea a c) = (a < 10 ^ 10) × (c < 10 ^ 10)
-Within (Cx a) = a < 10 ^ 10
-Within (Fa a Ether) = a < 10 ^ 10
-Within (Fa a (Codel c)) = (a < 10 ^ 10) × (c < 10 ^ 10)
-Within (Fm t) = t < 10 ^ 10
+Within (OfTask t k) = t < 10 ^ 10
+Within (OfAct a k) = (a < 10 ^ 10) × ActWithin k
 
 set-below : (p : List ℕ) (v : ℕ) → aSet p ≡ number.Is v → v < 2 ^ 64
 set-below p v u = set-text-read setDigits p v u .1
@@ -45,22 +55,23 @@ place-most p v u =
     (λ e. let q : number.Is etherValue ≡ number.Is v = rw e at u in let z : etherValue ≡ v = cc in omega arith)
     (λ e. omega (arith, number-below mostDigits p v (rw e at u)))
 
-place-within : (a c : ℕ) → a < 10 ^ 10 → c ≤ etherValue → Within (Fa a (targetOf c))
-place-within a c h m =
+target-within : (c : ℕ) → c ≤ etherValue → TargetWithin (targetOf c)
+target-within c m =
     cases (eqb c etherValue)
-    (λ g. rw g h)
-    (λ g. let o = eqb-false c etherValue g in rw g (h, order c etherValue (λ l. l) (λ l. absurd (o (omega arith)))))
+    (λ g. rw g tt)
+    (λ g. let o = eqb-false c etherValue g in rw g (order c etherValue (λ l. l) (λ l. absurd (o (omega arith)))))
 
 within : Shapes (λ s x. Within x)
 within = record {
   one = λ w p k a i e.
       let h = number-below mostDigits p a e in
-      either Within (eqb k 0) _ _ h (either Within (eqb k 1) _ _ h (either Within (eqb k 4) _ _ h (either Within (eqb k 6) _ _ h h)));
+      either Within (eqb k 0) _ _ h (either Within (eqb k 1) _ _ h (either Within (eqb k 4) _ _ (h, tt) (either Within (eqb k 6) _ _ (h, tt) h)));
   two = λ w p q k a b i e f.
-      let h : (a < 10 ^ 10) × (b < 10 ^ 10) = (number-below mostDigits p a e, number-below mostDigits q b f) in
-      either Within (eqb k 3) _ _ h h;
+      let h = number-below mostDigits p a e in
+      let g = number-below mostDigits q b f in
+      either Within (eqb k 3) _ _ (g, h) (h, g);
   manager = λ w p q s k t n r i e f g. (number-below mostDigits p t e, set-below q n f, set-below s r g);
-  leaving = λ w p q k a c i e f. place-within a c (number-below mostDigits p a e) (place-most q c f);
+  leaving = λ w p q k a c i e f. (number-below mostDigits p a e, target-within c (place-most q c f));
 }
 
 -- a line that reads as a step, without its newline

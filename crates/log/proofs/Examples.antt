@@ -8,7 +8,9 @@ use Rattle.text.specs.Set.{readSet}
 use Rattle.text.specs.Words.{wordIn}
 use Rattle.text.specs.Fields.{etherWord}
 use Rattle.model.specs.declared.Place.the-variants.{Ether, Codel}
-use Rattle.model.specs.declared.Step.the-variants.{Wait, St, Sm, Lm, Ia, Ea, Cx, Fa, Fm}
+use Rattle.model.specs.declared.TaskStep.the-variants.{St, Fm}
+use Rattle.model.specs.declared.ActStep.the-variants.{Lm, Ia, Ea, Cx, Fa}
+use Rattle.model.specs.declared.Step.the-variants.{Wait, Sm, OfTask, OfAct}
 use Rattle.model.specs.declared.Line.{Line}
 use Rattle.model.specs.declared.Line.the-variants.{Is, Bad}
 use Rattle.log.specs.Lines.{stepWords, readStep, readLine}
@@ -19,23 +21,23 @@ examples =
     -- wait 10
     (119 ∷ 97 ∷ 105 ∷ 116 ∷ 9 ∷ 49 ∷ 48 ∷ 10 ∷ [], Is (Wait 10)) ∷
     -- st 0
-    (115 ∷ 116 ∷ 9 ∷ 48 ∷ 10 ∷ [], Is (St 0)) ∷
+    (115 ∷ 116 ∷ 9 ∷ 48 ∷ 10 ∷ [], Is (OfTask 0 St)) ∷
     -- sm 0 0000000000000001 0000000000000000
     (115 ∷ 109 ∷ 9 ∷ 48 ∷ 9 ∷ 48 ∷ 48 ∷ 48 ∷ 48 ∷ 48 ∷ 48 ∷ 48 ∷ 48 ∷ 48 ∷ 48 ∷ 48 ∷ 48 ∷ 48 ∷ 48 ∷ 48 ∷ 49 ∷ 9 ∷ 48 ∷ 48 ∷ 48 ∷ 48 ∷ 48 ∷ 48 ∷ 48 ∷ 48 ∷ 48 ∷ 48 ∷ 48 ∷ 48 ∷ 48 ∷ 48 ∷ 48 ∷ 48 ∷ 10 ∷ [], Is (Sm 0 1 0)) ∷
     -- lm 0 0
-    (108 ∷ 109 ∷ 9 ∷ 48 ∷ 9 ∷ 48 ∷ 10 ∷ [], Is (Lm 0 0)) ∷
+    (108 ∷ 109 ∷ 9 ∷ 48 ∷ 9 ∷ 48 ∷ 10 ∷ [], Is (OfAct 0 (Lm 0))) ∷
     -- ea 0 0
-    (101 ∷ 97 ∷ 9 ∷ 48 ∷ 9 ∷ 48 ∷ 10 ∷ [], Is (Ea 0 0)) ∷
+    (101 ∷ 97 ∷ 9 ∷ 48 ∷ 9 ∷ 48 ∷ 10 ∷ [], Is (OfAct 0 (Ea (Codel 0)))) ∷
     -- fa 0 ether
-    (102 ∷ 97 ∷ 9 ∷ 48 ∷ 9 ∷ 101 ∷ 116 ∷ 104 ∷ 101 ∷ 114 ∷ 10 ∷ [], Is (Fa 0 Ether)) ∷
+    (102 ∷ 97 ∷ 9 ∷ 48 ∷ 9 ∷ 101 ∷ 116 ∷ 104 ∷ 101 ∷ 114 ∷ 10 ∷ [], Is (OfAct 0 (Fa Ether))) ∷
     -- fa 0 7
-    (102 ∷ 97 ∷ 9 ∷ 48 ∷ 9 ∷ 55 ∷ 10 ∷ [], Is (Fa 0 (Codel 7))) ∷
+    (102 ∷ 97 ∷ 9 ∷ 48 ∷ 9 ∷ 55 ∷ 10 ∷ [], Is (OfAct 0 (Fa (Codel 7)))) ∷
     -- ia 0
-    (105 ∷ 97 ∷ 9 ∷ 48 ∷ 10 ∷ [], Is (Ia 0)) ∷
+    (105 ∷ 97 ∷ 9 ∷ 48 ∷ 10 ∷ [], Is (OfAct 0 Ia)) ∷
     -- cx 0
-    (99 ∷ 120 ∷ 9 ∷ 48 ∷ 10 ∷ [], Is (Cx 0)) ∷
+    (99 ∷ 120 ∷ 9 ∷ 48 ∷ 10 ∷ [], Is (OfAct 0 Cx)) ∷
     -- fm 0
-    (102 ∷ 109 ∷ 9 ∷ 48 ∷ 10 ∷ [], Is (Fm 0)) ∷
+    (102 ∷ 109 ∷ 9 ∷ 48 ∷ 10 ∷ [], Is (OfTask 0 Fm)) ∷
     -- ea 0 ether
     (101 ∷ 97 ∷ 9 ∷ 48 ∷ 9 ∷ 101 ∷ 116 ∷ 104 ∷ 101 ∷ 114 ∷ 10 ∷ [], Bad) ∷
     -- wait 010

@@ -19,9 +19,9 @@ use Rattle.text.proofs.Sets.{set-text-read, set-text-free}
 use Rattle.log.specs.Lines.{aNumber, aSet, aPlace, byForm, only}
 
 -- a field reads or does not
-pub told : {P : Type 0} (n : Number) → ((v : ℕ) → n ≡ Is v → P) → (n ≡ Bad → P) → P
-told (Is v) f g = f v refl
-told Bad f g = g refl
+pub on-number : {P : Type 0} (n : Number) → ((v : ℕ) → n ≡ Is v → P) → (n ≡ Bad → P) → P
+on-number (Is v) f g = f v refl
+on-number Bad f g = g refl
 
 -- no text with a tab in it reads
 abbrev pub Tabless : (List ℕ → Number) → Type 0
@@ -48,7 +48,7 @@ tabless form p v u =
 -- a text that is cut into one field is that field
 pub only-whole : (form : List ℕ → Number) → Tabless form → (s : List ℕ) → only form (splitOn 9 s) ≡ form s
 only-whole form t s =
-    told (form s)
+    on-number (form s)
     (λ v u. let h = t s v u in let e : splitOn 9 s ≡ s ∷ [] = split-join 9 s [] (rw h) in rw e)
     (λ u. bad (splitOn 9 s) refl u ∙ sym u)
   where

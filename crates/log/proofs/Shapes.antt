@@ -15,8 +15,9 @@ use Rattle.text.specs.declared.Word.the-variants as word
 use Rattle.text.proofs.Picks.{passed}
 use Rattle.text.proofs.Parts.{join-split}
 use Rattle.model.specs.Tables.{targetOf}
+use Rattle.model.specs.declared.ActStep.the-variants.{Fa}
 use Rattle.model.specs.declared.Step.{Step}
-use Rattle.model.specs.declared.Step.the-variants.{Sm, Fa}
+use Rattle.model.specs.declared.Step.the-variants.{Sm, OfAct}
 use Rattle.model.specs.declared.Line.{Line}
 use Rattle.model.specs.declared.Line.the-variants.{Is, Bad}
 use Rattle.log.specs.Lines.{longestLine, stepWords, aNumber, aSet, aPlace, given, only, headed, oneNumber, twoNumbers, managerLine, leavingLine, oneOf, twoOf, stepOf, onWord, stepIn, readStep}
@@ -55,7 +56,7 @@ pub record Shapes (P : List ℕ → Step → Type 0) : Type 0 where
   pub one : (w p : List ℕ) (k a : ℕ) → wordIn stepWords w ≡ word.Is k → aNumber p ≡ number.Is a → P (joinOn 9 (w ∷ p ∷ [])) (oneOf k a)
   pub two : (w p q : List ℕ) (k a b : ℕ) → wordIn stepWords w ≡ word.Is k → aNumber p ≡ number.Is a → aNumber q ≡ number.Is b → P (joinOn 9 (w ∷ p ∷ q ∷ [])) (twoOf k a b)
   pub manager : (w p q s : List ℕ) (k t n r : ℕ) → wordIn stepWords w ≡ word.Is k → aNumber p ≡ number.Is t → aSet q ≡ number.Is n → aSet s ≡ number.Is r → P (joinOn 9 (w ∷ p ∷ q ∷ s ∷ [])) (Sm t n r)
-  pub leaving : (w p q : List ℕ) (k a c : ℕ) → wordIn stepWords w ≡ word.Is k → aNumber p ≡ number.Is a → aPlace q ≡ number.Is c → P (joinOn 9 (w ∷ p ∷ q ∷ [])) (Fa a (targetOf c))
+  pub leaving : (w p q : List ℕ) (k a c : ℕ) → wordIn stepWords w ≡ word.Is k → aNumber p ≡ number.Is a → aPlace q ≡ number.Is c → P (joinOn 9 (w ∷ p ∷ q ∷ [])) (OfAct a (Fa (targetOf c)))
 
 module _ {P : List ℕ → Step → Type 0} (f : Shapes P) (x : Step) where
   -- behind a word
@@ -83,8 +84,8 @@ module _ {P : List ℕ → Step → Type 0} (f : Shapes P) (x : Step) where
 
     leaving-shape : leavingLine ps ≡ Is x → P (joinOn 9 (w ∷ ps)) x
     leaving-shape u =
-        on-head aNumber ps (λ a qs. given (only aPlace qs) (λ c. Is (Fa a (targetOf c)))) x u λ p a qs d e v.
-        on-only aPlace qs (λ c. Is (Fa a (targetOf c))) x v λ q c g h z.
+        on-head aNumber ps (λ a qs. given (only aPlace qs) (λ c. Is (OfAct a (Fa (targetOf c))))) x u λ p a qs d e v.
+        on-only aPlace qs (λ c. Is (OfAct a (Fa (targetOf c)))) x v λ q c g h z.
         said (d ∙ ap (λ l. p ∷ l) g) z (f .leaving w p q k a c i e h)
 
     word-shape : stepOf k ps ≡ Is x → P (joinOn 9 (w ∷ ps)) x

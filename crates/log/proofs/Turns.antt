@@ -1,6 +1,7 @@
 -- One law for each exit of the code, over what its calls ensure.
 use Prim.Native.Nat.{ℕ, _+_, _-_, _≤_, _<_}
 use mathlib.Core.Path.{_≡_, sym, ap, _∙_}
+use mathlib.Core.Logic.{_⊎_, inl, inr}
 use mathlib.Core.List.{List, [], _∷_, _++_}
 use mathlib.Core.Bool.{Bool, true, false, not}
 use native.Mathlib.Omega.{arith}
@@ -22,12 +23,14 @@ use Rattle.text.proofs.Words.{same-list}
 use Rattle.text.proofs.Turns.{first-ends, behind-parts}
 use Rattle.model.specs.Tables.{targetOf}
 use Rattle.model.specs.declared.Place.{Place}
-use Rattle.model.specs.declared.Step.the-variants.{Wait, Lm, Ea, Fa}
+use Rattle.model.specs.declared.Place.the-variants.{Codel}
+use Rattle.model.specs.declared.ActStep.the-variants.{Lm, Ea, Fa}
+use Rattle.model.specs.declared.Step.the-variants.{Wait, OfAct}
 use Rattle.model.specs.declared.Line.{Line}
 use Rattle.model.specs.declared.Line.the-variants.{Is, Bad}
 use Rattle.log.specs.Lines.{stepWords, aNumber, aSet, aPlace, byForm, only, headed, given, oneNumber, oneOf, twoNumbers, twoOf, managerLine, leavingLine, stepOf, onWord, stepIn, readStep, readLine}
 use Rattle.log.proofs.Words.{wait, begins, short, waiting}
-use Rattle.log.proofs.Forms.{told, tabless, only-whole}
+use Rattle.log.proofs.Forms.{on-number, tabless, only-whole}
 
 -- a field by its form
 module _ (form : ℕ) (p : List ℕ) where
@@ -58,7 +61,7 @@ onGot s (got.Is v p) go = go v (partsFrom 9 s (p + 1))
 onGot s got.Bad go = Bad
 
 headed-got : (form : List ℕ → Number) (s : List ℕ) (at : ℕ) (go : ℕ → List (List ℕ) → Line) → headed form (partsFrom 9 s (at + 1)) go ≡ onGot s (behind form s at) go
-headed-got form s at go = behind-parts form s at (λ p b. rw (p, b)) (λ p e l q b. rw (q, b) (told (form p) (λ v u. rw u) (λ u. rw u)))
+headed-got form s at go = behind-parts form s at (λ p b. rw (p, b)) (λ p e l q b. rw (q, b) (on-number (form p) (λ v u. rw u) (λ u. rw u)))
 
 module _ (form : List ℕ → Number) (s : List ℕ) (at : ℕ) (g : Got) (e : g ≡ behind form s at) where
   pub headed-bad : g ≡ got.Bad → (go : ℕ → List (List ℕ) → Line) → Bad ≡ headed form (partsFrom 9 s (at + 1)) go
@@ -77,34 +80,29 @@ module _ (n w : Number) (e : n ≡ w) where
 
 -- the steps of two numbers, and of a place
 module _ (k a b : ℕ) where
-  pub two-lm : k ≡ 3 → Is (Lm a b) ≡ Is (twoOf k a b)
+  pub two-lm : k ≡ 3 → Is (OfAct b (Lm a)) ≡ Is (twoOf k a b)
   two-lm h = rw (eq-eqb _ _ h)
 
-  pub two-ea : (k ≡ 3 → ⊥) → Is (Ea a b) ≡ Is (twoOf k a b)
+  pub two-ea : (k ≡ 3 → ⊥) → Is (OfAct a (Ea (Codel b))) ≡ Is (twoOf k a b)
   two-ea h = rw (ne-eqb _ _ h)
 
-pub leaving : (a c : ℕ) (p : Place) → p ≡ targetOf c → Is (Fa a p) ≡ Is (Fa a (targetOf c))
+pub leaving : (a c : ℕ) (p : Place) → p ≡ targetOf c → Is (OfAct a (Fa p)) ≡ Is (OfAct a (Fa (targetOf c)))
 leaving a c p e = rw e
 
 -- the step of a word
 module _ (k : ℕ) (ps : List (List ℕ)) (r : Line) where
   pub word-sm : k ≡ 2 → r ≡ managerLine ps → r ≡ stepOf k ps
-  word-sm h e = rw (eq-eqb _ _ h) e
+  word-sm h e = rw h e
 
-  module _ (a : k ≡ 2 → ⊥) where
-    pub word-lm : k ≡ 3 → r ≡ twoNumbers ps (twoOf k) → r ≡ stepOf k ps
-    word-lm h e = rw (ne-eqb _ _ a, eq-eqb _ _ h) (rw (eq-eqb _ _ h) at e)
+  pub word-two : (k ≡ 3) ⊎ (k ≡ 5) → r ≡ twoNumbers ps (twoOf k) → r ≡ stepOf k ps
+  word-two (inl h) e = rw h (rw h at e)
+  word-two (inr h) e = rw h (rw h at e)
 
-    module _ (b : k ≡ 3 → ⊥) where
-      pub word-ea : k ≡ 5 → r ≡ twoNumbers ps (twoOf k) → r ≡ stepOf k ps
-      word-ea h e = rw (ne-eqb _ _ a, ne-eqb _ _ b, eq-eqb _ _ h) (rw (ne-eqb _ _ b) at e)
+  pub word-fa : k ≡ 7 → r ≡ leavingLine ps → r ≡ stepOf k ps
+  word-fa h e = rw h e
 
-      module _ (c : k ≡ 5 → ⊥) where
-        pub word-fa : k ≡ 7 → r ≡ leavingLine ps → r ≡ stepOf k ps
-        word-fa h e = rw (ne-eqb _ _ a, ne-eqb _ _ b, ne-eqb _ _ c, eq-eqb _ _ h) e
-
-        pub word-one : (k ≡ 7 → ⊥) → r ≡ oneNumber ps (oneOf k) → r ≡ stepOf k ps
-        word-one h e = rw (ne-eqb _ _ a, ne-eqb _ _ b, ne-eqb _ _ c, ne-eqb _ _ h) e
+  pub word-one : (k ≡ 2 → ⊥) → ((k ≡ 3) ⊎ (k ≡ 5) → ⊥) → (k ≡ 7 → ⊥) → r ≡ oneNumber ps (oneOf k) → r ≡ stepOf k ps
+  word-one a b c e = rw (ne-eqb _ _ a, ne-eqb _ _ (λ h. b (inl h)), ne-eqb _ _ (λ h. b (inr h)), ne-eqb _ _ c) e
 
 -- the first bytes of a text are as many as are asked for
 pub part-long : (s : List ℕ) (e : ℕ) → e ≤ length s → e ≡ length (take e s)

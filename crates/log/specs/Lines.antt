@@ -13,8 +13,11 @@ use Rattle.text.specs.declared.Number.the-variants as number
 use Rattle.text.specs.declared.Word.{Word}
 use Rattle.text.specs.declared.Word.the-variants as word
 use Rattle.model.specs.Tables.{targetOf}
+use Rattle.model.specs.declared.Place.the-variants.{Codel}
+use Rattle.model.specs.declared.TaskStep.the-variants.{St, Fm}
+use Rattle.model.specs.declared.ActStep.the-variants.{Lm, Ia, Ea, Cx, Fa}
 use Rattle.model.specs.declared.Step.{Step}
-use Rattle.model.specs.declared.Step.the-variants.{Wait, St, Sm, Lm, Ia, Ea, Cx, Fa, Fm}
+use Rattle.model.specs.declared.Step.the-variants.{Wait, Sm, OfTask, OfAct}
 use Rattle.model.specs.declared.Line.{Line}
 use Rattle.model.specs.declared.Line.the-variants.{Is, Bad}
 
@@ -73,14 +76,14 @@ byForm form p = pick (eqb form 0) (aNumber p) (pick (eqb form 1) (aSet p) (aPlac
 abbrev pub leavingLine : List (List ℕ) → Line
 leavingLine ps =
     headed aNumber ps λ a qs.
-    given (only aPlace qs) (λ c. Is (Fa a (targetOf c)))
+    given (only aPlace qs) (λ c. Is (OfAct a (Fa (targetOf c))))
 
 -- the steps of one number and of two, by their words' places
 abbrev pub oneOf : ℕ → ℕ → Step
-oneOf k a = pick (eqb k 0) (Wait a) (pick (eqb k 1) (St a) (pick (eqb k 4) (Ia a) (pick (eqb k 6) (Cx a) (Fm a))))
+oneOf k a = pick (eqb k 0) (Wait a) (pick (eqb k 1) (OfTask a St) (pick (eqb k 4) (OfAct a Ia) (pick (eqb k 6) (OfAct a Cx) (OfTask a Fm))))
 
 abbrev pub twoOf : ℕ → ℕ → ℕ → Step
-twoOf k a b = pick (eqb k 3) (Lm a b) (Ea a b)
+twoOf k a b = pick (eqb k 3) (OfAct b (Lm a)) (OfAct a (Ea (Codel b)))
 
 -- the step of a word with its fields
 abbrev pub stepOf : ℕ → List (List ℕ) → Line

@@ -9,10 +9,12 @@ ghost use Rattle.text.specs.Words.{wordIn};
 ghost use Rattle.text.specs.Fields.{behind};
 ghost use Rattle.text.specs.declared.Word.the-variants.{Is, Unknown};
 ghost use Rattle.model.specs.Tables.{targetOf};
-ghost use Rattle.log.specs.Lines.{stepWords, byForm, only, oneOf, twoOf, twoNumbers, managerLine, leavingLine, onWord, readStep, readLine};
+ghost use Rattle.log.specs.Lines.{stepWords, byForm, only, oneNumber, oneOf, twoNumbers, twoOf, managerLine, leavingLine, onWord, readStep, readLine};
+use model::ActStep;
 use model::Line;
 use model::Place;
 use model::Step;
+use model::TaskStep;
 use text::Got;
 use text::Number;
 use text::Word;
@@ -117,15 +119,15 @@ fn with_one(k: usize, a: u64) -> Step
         return Step::Wait(a);
     }
     if k == 1 {
-        return Step::St(a as usize);
+        return Step::OfTask(a as usize, TaskStep::St);
     }
     if k == 4 {
-        return Step::Ia(a as usize);
+        return Step::OfAct(a as usize, ActStep::Ia);
     }
     if k == 6 {
-        return Step::Cx(a as usize);
+        return Step::OfAct(a as usize, ActStep::Cx);
     }
-    Step::Fm(a as usize)
+    Step::OfTask(a as usize, TaskStep::Fm)
 }
 
 // `sm` task N R, behind its word.
@@ -166,7 +168,7 @@ fn read_leaving(line: &[u8], at: usize) -> Line
     let Number::Is(c) = only_field(line, p, TARGET) else {
         return Line::Bad;
     };
-    Line::Is(Step::Fa(a as usize, place_of(c)))
+    Line::Is(Step::OfAct(a as usize, ActStep::Fa(place_of(c))))
 }
 
 // `lm` task A and `ea` A c, behind their words.
@@ -181,9 +183,20 @@ fn read_two(line: &[u8], at: usize, k: usize) -> Line
         return Line::Bad;
     };
     if k == 3 {
-        return Line::Is(Step::Lm(a as usize, b as usize));
+        return Line::Is(Step::OfAct(b as usize, ActStep::Lm(a as usize)));
     }
-    Line::Is(Step::Ea(a as usize, b as usize))
+    Line::Is(Step::OfAct(a as usize, ActStep::Ea(Place::Codel(b as usize))))
+}
+
+// The steps of one number, behind their words.
+fn read_one(line: &[u8], at: usize, k: usize) -> Line
+    requires { ⌜ at ≤ length (now line) ⌝ }
+    ensures { λ r. ⌜ r ≡ oneNumber (partsFrom 9 (now (line .entry)) (at + 1)) (oneOf k) ⌝ }
+{
+    let Number::Is(a) = only_field(line, at, DECIMAL) else {
+        return Line::Bad;
+    };
+    Line::Is(with_one(k, a))
 }
 
 // What a line says whose word has two letters.
@@ -194,22 +207,12 @@ fn read_short(line: &[u8]) -> Line
     let Word::Is(k) = two_letters(line[0], line[1]) else {
         return Line::Bad;
     };
-    if k == 2 {
-        return read_manager(line, 2);
+    match k {
+        2 => read_manager(line, 2),
+        3 | 5 => read_two(line, 2, k),
+        7 => read_leaving(line, 2),
+        _ => read_one(line, 2, k),
     }
-    if k == 3 {
-        return read_two(line, 2, k);
-    }
-    if k == 5 {
-        return read_two(line, 2, k);
-    }
-    if k == 7 {
-        return read_leaving(line, 2);
-    }
-    let Number::Is(a) = only_field(line, 2, DECIMAL) else {
-        return Line::Bad;
-    };
-    Line::Is(with_one(k, a))
 }
 
 // What a line says, without its newline: its word has two letters or is `wait`.

@@ -11,6 +11,7 @@ use Rattle.model.specs.States.{taskAt, actAt, byManager, holds, inSets, 
 use Rattle.model.specs.Rules.{stRefusal, within, smRefusal, lmRefusal, iaRefusal, eaAllowed, eaRefusal, cxRefusal, faAllowed, faRefusal, noneIn, fmRefusal, urgent, roomFor, waitRefusal}
 use Rattle.model.specs.declared.State.{State}
 use Rattle.model.specs.declared.Place.{Place}
+use Rattle.model.specs.declared.Place.the-variants.{Codel}
 use Rattle.model.proofs.Tests.{true-T, and-i, and-both, need-of, need-mk}
 
 -- `wait`: in range, not hindered, with room, and not past the ceiling
@@ -153,7 +154,7 @@ module _ (K : Table) (s : State) where
       need-mk (ltb a (K .nacts)) 12 _ (lt→ltb _ _ (g .inA))
       (need-mk (holds K s a and (actAt s a .halt)) 13 0 (and-i (holds K s a) _ (g .holds) (g .inR)) refl)
 
-  pub ea-goes : (a c : ℕ) → eaRefusal K s a c ≡ 0 → EaGoes K s a c
+  pub ea-goes : (a c : ℕ) → eaRefusal K s a (Codel c) ≡ 0 → EaGoes K s a c
   ea-goes a c ok =
       let y = actAt s a in
       let f12 = need-of (ltb a (K .nacts) and ltb c (K .ncodels)) 12 _ tt ok in
@@ -164,7 +165,7 @@ module _ (K : Table) (s : State) where
       let free = and-both (not (y .halt)) _ (mine .1) in
       record { inA = ltb→lt _ _ (rows .0); inC = ltb→lt _ _ (rows .1); holds = mine .0; notR = free .0; allowed = free .1; clock = f14 .0 }
 
-  pub goes-ea : (a c : ℕ) → EaGoes K s a c → eaRefusal K s a c ≡ 0
+  pub goes-ea : (a c : ℕ) → EaGoes K s a c → eaRefusal K s a (Codel c) ≡ 0
   goes-ea a c g =
       let y = actAt s a in
       need-mk (ltb a (K .nacts) and ltb c (K .ncodels)) 12 _ (and-i (ltb a (K .nacts)) _ (lt→ltb _ _ (g .inA)) (lt→ltb _ _ (g .inC)))

@@ -19,8 +19,10 @@ use Rattle.model.specs.declared.State.{State}
 use Rattle.model.specs.declared.Place.{Place}
 use Rattle.model.specs.declared.Place.the-variants.{Ether, Codel}
 use Rattle.model.specs.declared.Holder.the-variants.{Manager, Activity}
+use Rattle.model.specs.declared.TaskStep.the-variants.{St, Fm}
+use Rattle.model.specs.declared.ActStep.the-variants.{Lm, Ia, Ea, Cx, Fa}
 use Rattle.model.specs.declared.Step.{Step}
-use Rattle.model.specs.declared.Step.the-variants.{Wait, St, Sm, Lm, Ia, Ea, Cx, Fa, Fm}
+use Rattle.model.specs.declared.Step.the-variants.{Wait, Sm, OfTask, OfAct}
 use Rattle.model.proofs.Tests.{T-true, T-false, and-both}
 use Rattle.model.proofs.Rows.{anew-at}
 use Rattle.model.proofs.Formed.{Formed, formed}
@@ -63,20 +65,21 @@ module _ (K : Table) (F : Formed K) (s : State) (S : Sound K s) where
   step-balance : (x : Step) → refusal K s x ≡ 0 → opens x + managing K s ≡ one (isFm x) + managing K (next K s x)
   unfolding refusal next
   step-balance (Wait d) ok = omega (arith, wait-managing d)
-  step-balance (St t) ok = omega (arith, set-managing t (st-goes K s t ok .inT) (signalled (taskAt s t)) (s .acts))
   step-balance (Sm t n r) ok =
       let g = sm-goes K s t n r ok in
       let e : one (taskAt s t .managing) ≡ 0 = ap one (T-false (taskAt s t .managing) (T-not (taskAt s t .managing) (g .waits))) in
       omega (arith, set-managing t (g .inT) (managed (s .date) (taskAt s t)) (anew (K .nacts) (λ a. listed (eqb (K .task a) t) n r a) noAct (s .acts)))
-  step-balance (Lm t a) ok = omega (arith, set-managing t (lm-goes K s t a ok .inT) (held (Activity a) 0 (taskAt s t)) (set (s .acts) a (again K (actAt s a .halt) (actAt s a .place) (actAt s a))))
-  step-balance (Ia a) ok = omega (arith, ia-managing a (ia-goes K s a ok .inA) (stopOf K a))
-  step-balance (Ea a c) ok = omega (arith, set-managing (K .task a) (F .task a (ea-goes K s a c ok .inA)) (held (taskAt s (K .task a) .holder) (actAt s a .clock) (taskAt s (K .task a))) (set (s .acts) a (entered K c (actAt s a))))
-  step-balance (Cx a) ok = omega (arith, set-managing (K .task a) (F .task a (cx-goes K s a ok .inA)) (taskAt s (K .task a)) (set (s .acts) a (begun (actAt s a))))
-  step-balance (Fa a p) ok = omega (arith, set-managing (K .task a) (F .task a (fa-goes K s a p ok .inA)) (held Manager (actAt s a .clock) (taskAt s (K .task a))) (set (s .acts) a (rested p)))
-  step-balance (Fm t) ok =
+  step-balance (OfTask t St) ok = omega (arith, set-managing t (st-goes K s t ok .inT) (signalled (taskAt s t)) (s .acts))
+  step-balance (OfTask t Fm) ok =
       let g = fm-goes K s t ok in
       let e : one (taskAt s t .managing) ≡ 1 = ap one (T-true (taskAt s t .managing) (g .managing)) in
       omega (arith, set-managing t (g .inT) (closed (taskAt s t)) (s .acts))
+  step-balance (OfAct a (Lm t)) ok = omega (arith, set-managing t (lm-goes K s t a ok .inT) (held (Activity a) 0 (taskAt s t)) (set (s .acts) a (again K (actAt s a .halt) (actAt s a .place) (actAt s a))))
+  step-balance (OfAct a Ia) ok = omega (arith, ia-managing a (ia-goes K s a ok .inA) (stopOf K a))
+  step-balance (OfAct a (Ea Ether)) ok = absurd (omega arith)
+  step-balance (OfAct a (Ea (Codel c))) ok = omega (arith, set-managing (K .task a) (F .task a (ea-goes K s a c ok .inA)) (held (taskAt s (K .task a) .holder) (actAt s a .clock) (taskAt s (K .task a))) (set (s .acts) a (entered K c (actAt s a))))
+  step-balance (OfAct a Cx) ok = omega (arith, set-managing (K .task a) (F .task a (cx-goes K s a ok .inA)) (taskAt s (K .task a)) (set (s .acts) a (begun (actAt s a))))
+  step-balance (OfAct a (Fa p)) ok = omega (arith, set-managing (K .task a) (F .task a (fa-goes K s a p ok .inA)) (held Manager (actAt s a .clock) (taskAt s (K .task a))) (set (s .acts) a (rested p)))
 
 -- from any sound state: what was managing and what was opened is kept, dropped or managing at the end
 pub balance-from : (K : Table) → Formed K → (xs : List Step) (s : State) → Sound K s → T (allAccepted K s xs) → openedIn xs + managing K s ≡ length (keptIn K s xs) + droppedIn K s xs + managing K (reached K s xs)

@@ -21,8 +21,10 @@ use Rattle.model.specs.declared.State.{State}
 use Rattle.model.specs.declared.Place.{Place}
 use Rattle.model.specs.declared.Place.the-variants.{Ether, Codel}
 use Rattle.model.specs.declared.Holder.the-variants.{Manager, Activity}
+use Rattle.model.specs.declared.TaskStep.the-variants.{St, Fm}
+use Rattle.model.specs.declared.ActStep.the-variants.{Lm, Ia, Ea, Cx, Fa}
 use Rattle.model.specs.declared.Step.{Step}
-use Rattle.model.specs.declared.Step.the-variants.{Wait, St, Sm, Lm, Ia, Ea, Cx, Fa, Fm}
+use Rattle.model.specs.declared.Step.the-variants.{Wait, Sm, OfTask, OfAct}
 use Rattle.model.proofs.Tests.{T-true, and-i, and-l, and-r, or-l, or-r}
 use Rattle.model.proofs.Rows.{set-cases}
 use Rattle.model.proofs.Formed.{Formed}
@@ -195,7 +197,7 @@ module _ (K : Table) (F : Formed K) (s : State) (S : Sound K s) where
       let y = actAt s a in
       go-falls a (g .inA) (g .holds) x (begun y) (held-on a x) refl (cx-left K (holds K s a) (y .run) (y .halt) (y .place) (y .executing) (y .clock) (g .holds) (g .notR) (g .stands))
 
-  ea-falls : (a c : ℕ) → eaRefusal K s a c ≡ 0 → weight K (eaNext K s a c) + 1 ≤ weight K s
+  ea-falls : (a c : ℕ) → eaRefusal K s a (Codel c) ≡ 0 → weight K (eaNext K s a (Codel c)) + 1 ≤ weight K s
   ea-falls a c ok =
       let g = ea-goes K s a c ok in
       let x = taskAt s (K .task a) in
@@ -232,11 +234,12 @@ module _ (K : Table) (F : Formed K) (s : State) (S : Sound K s) where
   pub step-falls : (x : Step) → T (not (isWait x)) → refusal K s x ≡ 0 → weight K (next K s x) + 1 ≤ weight K s
   unfolding refusal next
   step-falls (Wait d) w ok = absurd w
-  step-falls (St t) w ok = st-falls t ok
   step-falls (Sm t n r) w ok = sm-falls t n r ok
-  step-falls (Lm t a) w ok = lm-falls t a ok
-  step-falls (Ia a) w ok = ia-falls a ok
-  step-falls (Ea a c) w ok = ea-falls a c ok
-  step-falls (Cx a) w ok = cx-falls a ok
-  step-falls (Fa a p) w ok = fa-falls a p ok
-  step-falls (Fm t) w ok = fm-falls t ok
+  step-falls (OfTask t St) w ok = st-falls t ok
+  step-falls (OfTask t Fm) w ok = fm-falls t ok
+  step-falls (OfAct a (Lm t)) w ok = lm-falls t a ok
+  step-falls (OfAct a Ia) w ok = ia-falls a ok
+  step-falls (OfAct a (Ea Ether)) w ok = absurd (omega arith)
+  step-falls (OfAct a (Ea (Codel c))) w ok = ea-falls a c ok
+  step-falls (OfAct a Cx) w ok = cx-falls a ok
+  step-falls (OfAct a (Fa p)) w ok = fa-falls a p ok

@@ -16,8 +16,10 @@ use Rattle.model.specs.declared.Act.{Act}
 use Rattle.model.specs.declared.State.{State}
 use Rattle.model.specs.declared.Place.{Place}
 use Rattle.model.specs.declared.Place.the-variants.{Ether, Codel}
+use Rattle.model.specs.declared.TaskStep.the-variants.{St}
+use Rattle.model.specs.declared.ActStep.the-variants.{Ea, Fa}
 use Rattle.model.specs.declared.Step.{Step}
-use Rattle.model.specs.declared.Step.the-variants.{Wait, St, Ea, Fa}
+use Rattle.model.specs.declared.Step.the-variants.{Wait, OfTask, OfAct}
 use Rattle.model.proofs.Tests.{yes-or-no, and-i, and-l, and-r, or-l, or-r, each-or}
 use Rattle.model.proofs.Formed.{Formed}
 use Rattle.model.proofs.Soundness.{Sound, Executing, task-at, executing-at}
@@ -40,7 +42,7 @@ module _ (K : Table) (F : Formed K) (s : State) (S : Sound K s) where
   -- a timer that cannot grow is due
   due-goes : (t : ℕ) → t < K .ntasks → leb (taskAt s t .timer + 1) (K .period t) ≡ false → Goes K s
   unfolding refusal
-  due-goes t ht e = (St t, goes-st K s t (record { inT = ht; due = omega (arith, leb-false (taskAt s t .timer + 1) (K .period t) e, task-at K s S t ht .timer) }))
+  due-goes t ht e = (OfTask t St, goes-st K s t (record { inT = ht; due = omega (arith, leb-false (taskAt s t .timer + 1) (K .period t) e, task-at K s S t ht .timer) }))
 
   -- a codel that has executed for a tick is left by any edge it has
   edge-goes : (a : ℕ) (ha : a < K .nacts) (e : T (actAt s a .executing)) → 1 ≤ actAt s a .clock → (d : ℕ) → actAt s a .place ≡ Codel d → (p : Place) (z : Bool) → T (hasEdge K d p z) → Goes K s
@@ -54,13 +56,13 @@ module _ (K : Table) (F : Formed K) (s : State) (S : Sound K s) where
       w = executing-at K s S a ha e
 
       away : (p : Place) → T (known K p) → T (faAllowed K (Codel d) p) → Goes K s
-      away p kn al = (Fa a p, goes-fa K s a p (record { inA = ha; known = kn; holds = w .holds; executing = e; allowed = subst⁻¹ (λ q. T (faAllowed K q p)) at al; clock = k }))
+      away p kn al = (OfAct a (Fa p), goes-fa K s a p (record { inA = ha; known = kn; holds = w .holds; executing = e; allowed = subst⁻¹ (λ q. T (faAllowed K q p)) at al; clock = k }))
 
       go : (p : Place) (z : Bool) → T (hasEdge K d p z) → T (atOwn K (K .owner d) p) → Goes K s
       go Ether true ed o = away Ether tt (or-l (hasEdge K d Ether true) _ ed)
       go Ether false ed o = away Ether tt (or-r (hasEdge K d Ether true) _ ed)
       go (Codel c) true ed o = away (Codel c) (and-l (ltb c (K .ncodels)) _ o) (or-l (hasEdge K d (Codel c) true) _ ed)
-      go (Codel c) false ed o = (Ea a c, goes-ea K s a c (record { inA = ha; inC = ltb→lt _ _ (and-l (ltb c (K .ncodels)) _ o); holds = w .holds; notR = w .notR; allowed = subst⁻¹ (λ q. T (eaAllowed K y a c q)) at (and-i (y .executing) _ e ed); clock = or-r (isEther (y .place)) _ (le→leb _ _ k) }))
+      go (Codel c) false ed o = (OfAct a (Ea (Codel c)), goes-ea K s a c (record { inA = ha; inC = ltb→lt _ _ (and-l (ltb c (K .ncodels)) _ o); holds = w .holds; notR = w .notR; allowed = subst⁻¹ (λ q. T (eaAllowed K y a c q)) at (and-i (y .executing) _ e ed); clock = or-r (isEther (y .place)) _ (le→leb _ _ k) }))
 
   -- a codel whose clock cannot grow is left
   end-goes : (c : ℕ) → c < K .ncodels → executes K s c implies leb (actAt s (K .owner c) .clock + 1) (K .limit c) ≡ false → Goes K s

@@ -23,8 +23,10 @@ use Rattle.model.specs.declared.State.{State}
 use Rattle.model.specs.declared.Place.{Place}
 use Rattle.model.specs.declared.Place.the-variants.{Ether, Codel}
 use Rattle.model.specs.declared.Holder.the-variants.{Manager, Activity}
+use Rattle.model.specs.declared.TaskStep.the-variants.{St, Fm}
+use Rattle.model.specs.declared.ActStep.the-variants.{Lm, Ia, Ea, Cx, Fa}
 use Rattle.model.specs.declared.Step.{Step}
-use Rattle.model.specs.declared.Step.the-variants.{Wait, St, Sm, Lm, Ia, Ea, Cx, Fa, Fm}
+use Rattle.model.specs.declared.Step.the-variants.{Wait, Sm, OfTask, OfAct}
 use Rattle.model.proofs.Tests.{T-true, true-T, and-i, and-l, and-r, and-both, imp-i, imp-e, each-at}
 use Rattle.model.proofs.Rows.{set-cases, anew-past, anew-at}
 use Rattle.model.proofs.Formed.{Formed}
@@ -121,7 +123,7 @@ module _ (K : Table) (F : Formed K) (s : State) (S : Sound K s) where
   ia-keeps : (a : ℕ) → iaRefusal K s a ≡ 0 → Sound K (iaNext K s a)
   ia-keeps a ok = let g = ia-goes K s a ok in ia-to a (g .inA) (g .holds) (stopOf K a) refl
 
-  ea-keeps : (a c : ℕ) → eaRefusal K s a c ≡ 0 → Sound K (eaNext K s a c)
+  ea-keeps : (a c : ℕ) → eaRefusal K s a (Codel c) ≡ 0 → Sound K (eaNext K s a (Codel c))
   ea-keeps a c ok =
       let g = ea-goes K s a c ok in
       let t = K .task a in
@@ -260,14 +262,15 @@ module _ (K : Table) (F : Formed K) (s : State) (S : Sound K s) where
   pub step-keeps : (x : Step) → refusal K s x ≡ 0 → Sound K (next K s x)
   unfolding refusal next
   step-keeps (Wait d) ok = wait-keeps d ok
-  step-keeps (St t) ok = st-keeps t ok
   step-keeps (Sm t n r) ok = sm-keeps t n r ok
-  step-keeps (Lm t a) ok = lm-keeps t a ok
-  step-keeps (Ia a) ok = ia-keeps a ok
-  step-keeps (Ea a c) ok = ea-keeps a c ok
-  step-keeps (Cx a) ok = cx-keeps a ok
-  step-keeps (Fa a p) ok = fa-keeps a p ok
-  step-keeps (Fm t) ok = fm-keeps t ok
+  step-keeps (OfTask t St) ok = st-keeps t ok
+  step-keeps (OfTask t Fm) ok = fm-keeps t ok
+  step-keeps (OfAct a (Lm t)) ok = lm-keeps t a ok
+  step-keeps (OfAct a Ia) ok = ia-keeps a ok
+  step-keeps (OfAct a (Ea Ether)) ok = S
+  step-keeps (OfAct a (Ea (Codel c))) ok = ea-keeps a c ok
+  step-keeps (OfAct a Cx) ok = cx-keeps a ok
+  step-keeps (OfAct a (Fa p)) ok = fa-keeps a p ok
 
 -- every accepted sequence of steps leads from a sound state to a sound one
 pub reached-sound : (K : Table) → Formed K → (xs : List Step) (s : State) → Sound K s → T (allAccepted K s xs) → Sound K (reached K s xs)

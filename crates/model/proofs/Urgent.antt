@@ -3,6 +3,7 @@ use mathlib.Core.Bool.{Bool, not}
 use mathlib.Core.Path.{_≡_, refl, subst⁻¹}
 use mathlib.Core.Logic.{⊎-elim, _↔_}
 use Prim.Native.Nat.{ℕ, _<_, _%_, _^_}
+use native.Mathlib.Omega.{arith}
 use native.Mathlib.Nat.{zero-div}
 use borrow.Author.Tests.{eq-eqb, not-false}
 use lib.Dec.{T, ltb, eqb, eqb→eq, eqb-refl, T-not}
@@ -19,8 +20,10 @@ use Rattle.model.specs.declared.Place.{Place}
 use Rattle.model.specs.declared.Place.the-variants.{Ether, Codel}
 use Rattle.model.specs.declared.Holder.{Holder}
 use Rattle.model.specs.declared.Holder.the-variants.{Manager, Activity}
+use Rattle.model.specs.declared.TaskStep.the-variants.{St, Fm}
+use Rattle.model.specs.declared.ActStep.the-variants.{Lm, Ia, Ea, Cx, Fa}
 use Rattle.model.specs.declared.Step.{Step}
-use Rattle.model.specs.declared.Step.the-variants.{Wait, St, Sm, Lm, Ia, Ea, Cx, Fa, Fm}
+use Rattle.model.specs.declared.Step.the-variants.{Wait, Sm, OfTask, OfAct}
 use Rattle.model.proofs.Tests.{true-T, yes-or-no, same-test, and-i, and-l, and-r, or-l, or-r, or-cases, each-mk, some-at, some-mk, each-or}
 use Rattle.model.proofs.Formed.{Formed}
 use Rattle.model.proofs.Soundness.{Sound, held-is, holder-in}
@@ -51,7 +54,7 @@ module _ (K : Table) (s : State) where
           let t = w .0 in
           let lms : ℕ → Bool = λ a. accepted (lmRefusal K s t a) in
           ⊎-elim (λ h. (Sm t 0 0, tt, eqb→eq _ _ h))
-          (λ r. ⊎-elim (λ q. let z = some-at lms (K .nacts) q in (Lm t (z .0), tt, eqb→eq _ _ (z .2))) (λ h. (Fm t, tt, eqb→eq _ _ h))
+          (λ r. ⊎-elim (λ q. let z = some-at lms (K .nacts) q in (OfAct (z .0) (Lm t), tt, eqb→eq _ _ (z .2))) (λ h. (OfTask t Fm, tt, eqb→eq _ _ h))
           (or-cases (some (K .nacts) lms) _ r))
           (or-cases (accepted (smRefusal K s t 0 0)) _ (w .2))
 
@@ -59,10 +62,10 @@ module _ (K : Table) (s : State) where
       act v =
           let w = some-at (urgentAct K s) (K .nacts) v in
           let a = w .0 in
-          let eas : ℕ → Bool = λ c. accepted (eaRefusal K s a c) in
+          let eas : ℕ → Bool = λ c. accepted (eaRefusal K s a (Codel c)) in
           let ether = isEther (actAt s a .place) in
-          ⊎-elim (λ h. (Ia a, tt, eqb→eq _ _ h))
-          (λ r. ⊎-elim (λ h. (Cx a, tt, eqb→eq _ _ h)) (λ q. let z = some-at eas (K .ncodels) (and-r ether _ q) in (Ea a (z .0), and-l ether _ q, eqb→eq _ _ (z .2)))
+          ⊎-elim (λ h. (OfAct a Ia, tt, eqb→eq _ _ h))
+          (λ r. ⊎-elim (λ h. (OfAct a Cx, tt, eqb→eq _ _ h)) (λ q. let z = some-at eas (K .ncodels) (and-r ether _ q) in (OfAct a (Ea (Codel (z .0))), and-l ether _ q, eqb→eq _ _ (z .2)))
           (or-cases (accepted (cxRefusal K s a)) _ r))
           (or-cases (accepted (iaRefusal K s a)) _ (w .2))
 
@@ -83,20 +86,21 @@ module _ (K : Table) (s : State) where
   some-urgent : (x : Step) → T (urgentKind s x) → refusal K s x ≡ 0 → T (urgent K s)
   unfolding urgentTask urgentAct refusal
   some-urgent (Wait d) k ok = absurd k
-  some-urgent (St t) k ok = absurd k
   some-urgent (Sm t n r) k ok =
       let g = sm-goes K s t n r ok in
       by-task t (g .inT) (or-l (accepted (smRefusal K s t 0 0)) _ (zero-accepted _ (empty-sm t (g .inT) (g .waits) (g .signal))))
-  some-urgent (Lm t a) k ok =
+  some-urgent (OfTask t St) k ok = absurd k
+  some-urgent (OfTask t Fm) k ok = by-task t (fm-goes K s t ok .inT) (or-r (accepted (smRefusal K s t 0 0)) _ (or-r (some (K .nacts) (λ a. accepted (lmRefusal K s t a))) _ (zero-accepted _ ok)))
+  some-urgent (OfAct a (Lm t)) k ok =
       let g = lm-goes K s t a ok in
       by-task t (g .inT) (or-r (accepted (smRefusal K s t 0 0)) _ (or-l (some (K .nacts) (λ a. accepted (lmRefusal K s t a))) _ (some-mk (λ a. accepted (lmRefusal K s t a)) (K .nacts) a (g .inA) (zero-accepted _ ok))))
-  some-urgent (Ia a) k ok = by-act a (ia-goes K s a ok .inA) (or-l (accepted (iaRefusal K s a)) _ (zero-accepted _ ok))
-  some-urgent (Ea a c) k ok =
+  some-urgent (OfAct a Ia) k ok = by-act a (ia-goes K s a ok .inA) (or-l (accepted (iaRefusal K s a)) _ (zero-accepted _ ok))
+  some-urgent (OfAct a (Ea Ether)) k ok = absurd (omega arith)
+  some-urgent (OfAct a (Ea (Codel c))) k ok =
       let g = ea-goes K s a c ok in
-      by-act a (g .inA) (or-r (accepted (iaRefusal K s a)) _ (or-r (accepted (cxRefusal K s a)) _ (and-i (isEther (actAt s a .place)) _ k (some-mk (λ c. accepted (eaRefusal K s a c)) (K .ncodels) c (g .inC) (zero-accepted _ ok)))))
-  some-urgent (Cx a) k ok = by-act a (cx-goes K s a ok .inA) (or-r (accepted (iaRefusal K s a)) _ (or-l (accepted (cxRefusal K s a)) _ (zero-accepted _ ok)))
-  some-urgent (Fa a p) k ok = absurd k
-  some-urgent (Fm t) k ok = by-task t (fm-goes K s t ok .inT) (or-r (accepted (smRefusal K s t 0 0)) _ (or-r (some (K .nacts) (λ a. accepted (lmRefusal K s t a))) _ (zero-accepted _ ok)))
+      by-act a (g .inA) (or-r (accepted (iaRefusal K s a)) _ (or-r (accepted (cxRefusal K s a)) _ (and-i (isEther (actAt s a .place)) _ k (some-mk (λ c. accepted (eaRefusal K s a (Codel c))) (K .ncodels) c (g .inC) (zero-accepted _ ok)))))
+  some-urgent (OfAct a Cx) k ok = by-act a (cx-goes K s a ok .inA) (or-r (accepted (iaRefusal K s a)) _ (or-l (accepted (cxRefusal K s a)) _ (zero-accepted _ ok)))
+  some-urgent (OfAct a (Fa p)) k ok = absurd k
 
   -- 16 is given exactly where one of the named steps would be accepted
   pub urgent-exact : T (urgent K s) ↔ Hindering K s
@@ -116,29 +120,30 @@ module _ (K : Table) (F : Formed K) (s : State) (S : Sound K s) where
   to-task : (x : Step) → T (urgentKind s x) → refusal K s x ≡ 0 → (t : ℕ) × (t < K .ntasks) × T (taskHinders K s t)
   unfolding refusal
   to-task (Wait d) k ok = absurd k
-  to-task (St t) k ok = absurd k
   to-task (Sm t n r) k ok =
       let g = sm-goes K s t n r ok in
       (t, g .inT, or-l (not (taskAt s t .managing) and (taskAt s t .signal)) _ (and-i (not (taskAt s t .managing)) _ (g .waits) (g .signal)))
-  to-task (Lm t a) k ok = let g = lm-goes K s t a ok in (t, g .inT, by-manager t (g .managing) (g .holds))
-  to-task (Ia a) k ok = let g = ia-goes K s a ok in by-holder a (g .inA) (g .holds) (or-l (actAt s a .halt) _ (g .inR))
-  to-task (Ea a c) k ok = let g = ea-goes K s a c ok in by-holder a (g .inA) (g .holds) (or-r (actAt s a .halt) _ (or-l (isEther (actAt s a .place)) _ k))
-  to-task (Cx a) k ok =
+  to-task (OfTask t St) k ok = absurd k
+  to-task (OfTask t Fm) k ok = let g = fm-goes K s t ok in (t, g .inT, by-manager t (g .managing) (g .holds))
+  to-task (OfAct a (Lm t)) k ok = let g = lm-goes K s t a ok in (t, g .inT, by-manager t (g .managing) (g .holds))
+  to-task (OfAct a Ia) k ok = let g = ia-goes K s a ok in by-holder a (g .inA) (g .holds) (or-l (actAt s a .halt) _ (g .inR))
+  to-task (OfAct a (Ea Ether)) k ok = absurd (omega arith)
+  to-task (OfAct a (Ea (Codel c))) k ok = let g = ea-goes K s a c ok in by-holder a (g .inA) (g .holds) (or-r (actAt s a .halt) _ (or-l (isEther (actAt s a .place)) _ k))
+  to-task (OfAct a Cx) k ok =
       let g = cx-goes K s a ok in
       let y = actAt s a in
       by-holder a (g .inA) (g .holds) (or-r (y .halt) _ (or-r (isEther (y .place)) _ (and-i (stands K y (y .place)) _ (g .stands) (g .clear))))
-  to-task (Fa a p) k ok = absurd k
-  to-task (Fm t) k ok = let g = fm-goes K s t ok in (t, g .inT, by-manager t (g .managing) (g .holds))
+  to-task (OfAct a (Fa p)) k ok = absurd k
 
   -- a holder that hinders has such a step: `ia` in R, `ea` to its start at ether, else `cx`
   of-holder : (a : ℕ) → a < K .nacts → T (holds K s a) → T (holderHinders K s (Activity a)) → Hindering K s
   unfolding refusal
   of-holder a ha hh u = ⊎-elim
-      (λ l. (Ia a, tt, goes-ia K s a (record { inA = ha; holds = hh; inR = l })))
+      (λ l. (OfAct a Ia, tt, goes-ia K s a (record { inA = ha; holds = hh; inR = l })))
       (λ n. ⊎-elim (λ l. absurd (T-not (y .halt) n l))
       (λ v. ⊎-elim
-      (λ e. let c = F .starts a ha in (Ea a (c .0), e, goes-ea K s a (c .0) (record { inA = ha; inC = c .1; holds = hh; notR = n; allowed = start (c .0) (y .place) e (c .2); clock = or-l (isEther (y .place)) _ e })))
-      (λ w. (Cx a, tt, goes-cx K s a (record { inA = ha; holds = hh; notR = n; stands = and-l (stands K y (y .place)) _ w; clear = and-r (stands K y (y .place)) _ w })))
+      (λ e. let c = F .starts a ha in (OfAct a (Ea (Codel (c .0))), e, goes-ea K s a (c .0) (record { inA = ha; inC = c .1; holds = hh; notR = n; allowed = start (c .0) (y .place) e (c .2); clock = or-l (isEther (y .place)) _ e })))
+      (λ w. (OfAct a Cx, tt, goes-cx K s a (record { inA = ha; holds = hh; notR = n; stands = and-l (stands K y (y .place)) _ w; clear = and-r (stands K y (y .place)) _ w })))
       (or-cases (isEther (y .place)) _ v))
       (or-cases (y .halt) _ u))
       (yes-or-no (y .halt))
@@ -154,11 +159,11 @@ module _ (K : Table) (F : Formed K) (s : State) (S : Sound K s) where
   of-manager : (t : ℕ) → t < K .ntasks → T (taskAt s t .managing) → T (byManager (taskAt s t .holder)) → Hindering K s
   unfolding refusal noneIn
   of-manager t ht m h = ⊎-elim
-      (λ e. (Fm t, tt, goes-fm K s t (record { inT = ht; managing = m; holds = h; none = e })))
+      (λ e. (OfTask t Fm, tt, goes-fm K s t (record { inT = ht; managing = m; holds = h; none = e })))
       (λ w.
       let a = w .0 in
       let u : T (inSets K s t a) = true-T _ (not-false (inSets K s t a) (w .2)) in
-      (Lm t a, tt, goes-lm K s t a (record { inT = ht; inA = w .1; managing = m; holds = h; task = eqb→eq _ _ (and-l (eqb (K .task a) t) _ u); listed = and-r (eqb (K .task a) t) _ u })))
+      (OfAct a (Lm t), tt, goes-lm K s t a (record { inT = ht; inA = w .1; managing = m; holds = h; task = eqb→eq _ _ (and-l (eqb (K .task a) t) _ u); listed = and-r (eqb (K .task a) t) _ u })))
       (each-or (λ a. not (inSets K s t a)) (K .nacts))
 
   -- a task that hinders has such a step

@@ -10,8 +10,9 @@ use Rattle.model.specs.States.{taskAt}
 use Rattle.model.specs.Rules.{refusal, lineRefusal, next}
 use Rattle.model.specs.Logs.{reached, most}
 use Rattle.model.specs.declared.State.{State}
+use Rattle.model.specs.declared.TaskStep.the-variants.{St, Fm}
 use Rattle.model.specs.declared.Step.{Step}
-use Rattle.model.specs.declared.Step.the-variants.{Wait, St, Sm, Lm, Ia, Ea, Cx, Fa, Fm}
+use Rattle.model.specs.declared.Step.the-variants.{Wait, Sm, OfTask, OfAct}
 use Rattle.model.specs.declared.Line.{Line}
 use Rattle.model.specs.declared.Line.the-variants as line
 
@@ -39,25 +40,17 @@ keeps K s t = leb (K .keep t) (s .date - taskAt s t .opened) or leb 1 (taskAt s 
 -- "No earlier step gives a verdict."
 unfoldable pub verdict : Table → State → Step → Verdict
 verdict K s (Wait d) = none
-verdict K s (St t) = none
 verdict K s (Sm t n r) = none
-verdict K s (Lm t a) = none
-verdict K s (Ia a) = none
-verdict K s (Ea a c) = none
-verdict K s (Cx a) = none
-verdict K s (Fa a p) = none
-verdict K s (Fm t) = cond (keeps K s t) (kept (keptRow s t)) dropped
+verdict K s (OfTask t St) = none
+verdict K s (OfTask t Fm) = cond (keeps K s t) (kept (keptRow s t)) dropped
+verdict K s (OfAct a k) = none
 
 abbrev pub isFm : Step → Bool
 isFm (Wait d) = false
-isFm (St t) = false
 isFm (Sm t n r) = false
-isFm (Lm t a) = false
-isFm (Ia a) = false
-isFm (Ea a c) = false
-isFm (Cx a) = false
-isFm (Fa a p) = false
-isFm (Fm t) = true
+isFm (OfTask t St) = false
+isFm (OfTask t Fm) = true
+isFm (OfAct a k) = false
 
 abbrev pub isVerdict : Verdict → Bool
 isVerdict none = false
@@ -67,14 +60,9 @@ isVerdict dropped = true
 -- "Opened (accepted `sm`)"
 abbrev pub opens : Step → ℕ
 opens (Wait d) = 0
-opens (St t) = 0
 opens (Sm t n r) = 1
-opens (Lm t a) = 0
-opens (Ia a) = 0
-opens (Ea a c) = 0
-opens (Cx a) = 0
-opens (Fa a p) = 0
-opens (Fm t) = 0
+opens (OfTask t k) = 0
+opens (OfAct a k) = 0
 
 unfoldable pub openedIn : List Step → ℕ
 openedIn [] = 0
@@ -141,8 +129,8 @@ abbrev pub lineOf : ℕ → ℕ → ℕ
 lineOf zero n = 0
 lineOf (suc r) n = n + 1
 
-abbrev pub reportOn : Table → State → List Step → ℕ → Report
-reportOn K s xs r = record {
+abbrev pub reportOf : Table → State → List Step → ℕ → Report
+reportOf K s xs r = record {
   kept = keptIn K s xs;
   sum = record {
     steps = length xs;
@@ -159,7 +147,7 @@ reportOn K s xs r = record {
 
 -- the report on a log, judged from a state
 unfoldable pub report : Table → State → List Line → Report
-report K s ls = reportOn K s (stepsOf K s ls) (stopOn K s ls)
+report K s ls = reportOf K s (stepsOf K s ls) (stopOn K s ls)
 
 -- "A refused table gives `cycles 1` and a `sum` row of zeros but for the last two numbers."
 abbrev pub refusedReport : ℕ → ℕ → Report

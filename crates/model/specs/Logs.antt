@@ -7,7 +7,7 @@ use Rattle.model.specs.Tables.{Table}
 use Rattle.model.specs.Rules.{refusal, next}
 use Rattle.model.specs.declared.State.{State}
 use Rattle.model.specs.declared.Step.{Step}
-use Rattle.model.specs.declared.Step.the-variants.{Wait, St, Sm, Lm, Ia, Ea, Cx, Fa, Fm}
+use Rattle.model.specs.declared.Step.the-variants.{Wait, Sm, OfTask, OfAct}
 
 unfoldable pub allAccepted : Table → State → List Step → Bool
 allAccepted K s [] = true
@@ -19,14 +19,9 @@ reached K s (x ∷ xs) = reached K (next K s x) xs
 
 abbrev pub isWait : Step → Bool
 isWait (Wait d) = true
-isWait (St t) = false
 isWait (Sm t n r) = false
-isWait (Lm t a) = false
-isWait (Ia a) = false
-isWait (Ea a c) = false
-isWait (Cx a) = false
-isWait (Fa a p) = false
-isWait (Fm t) = false
+isWait (OfTask t k) = false
+isWait (OfAct a k) = false
 
 -- "most steps other than waits between two neighbouring waits or at either end of the log", n of them since the last wait
 unfoldable pub most : ℕ → List Step → ℕ

@@ -16,8 +16,12 @@ use Rattle.model.specs.declared.Place.{Place}
 use Rattle.model.specs.declared.Place.the-variants.{Ether, Codel}
 use Rattle.model.specs.declared.Holder.{Holder}
 use Rattle.model.specs.declared.Holder.the-variants.{Manager, Activity}
+use Rattle.model.specs.declared.TaskStep.{TaskStep}
+use Rattle.model.specs.declared.TaskStep.the-variants.{St, Fm}
+use Rattle.model.specs.declared.ActStep.{ActStep}
+use Rattle.model.specs.declared.ActStep.the-variants.{Lm, Ia, Ea, Cx, Fa}
 use Rattle.model.specs.declared.Step.{Step}
-use Rattle.model.specs.declared.Step.the-variants.{Wait, St, Sm, Lm, Ia, Ea, Cx, Fa, Fm}
+use Rattle.model.specs.declared.Step.the-variants.{Wait, Sm, OfTask, OfAct}
 use Rattle.model.specs.declared.Line.{Line}
 use Rattle.model.specs.declared.Line.the-variants as line
 
@@ -129,20 +133,23 @@ abbrev pub iaNext : Table → State → ℕ → State
 iaNext K s a = iaTo K s a (stopOf K a)
 
 -- "`ea` A c: A holds and is not in R; at ether and c its start; or executing, with a `run` edge to codel c. Enter c."
--- "`ea` from a codel, and `fa`, need a clock of at least 1 and set longest to the larger of itself and that clock."
+-- "`ea` from a codel, and `fa`, need a clock of at least 1 and set longest to the larger of itself and that clock." 11: to ether `ea` is
+-- "not a step".
 abbrev pub eaAllowed : Table → Act → ℕ → ℕ → Place → Bool
 eaAllowed K y a c Ether = isStart K a c
 eaAllowed K y a c (Codel d) = (y .executing) and hasEdge K d (Codel c) false
 
-abbrev pub eaRefusal : Table → State → ℕ → ℕ → ℕ
-eaRefusal K s a c =
+abbrev pub eaRefusal : Table → State → ℕ → Place → ℕ
+eaRefusal K s a Ether = 11
+eaRefusal K s a (Codel c) =
     need (ltb a (K .nacts) and ltb c (K .ncodels)) 12
     (need (holds K s a and not (actAt s a .halt) and eaAllowed K (actAt s a) a c (actAt s a .place)) 13
     (need (isEther (actAt s a .place) or leb 1 (actAt s a .clock)) 14
     0))
 
-abbrev pub eaNext : Table → State → ℕ → ℕ → State
-eaNext K s a c = putBoth s (K .task a) (held (taskAt s (K .task a) .holder) (actAt s a .clock) (taskAt s (K .task a))) a (entered K c (actAt s a))
+abbrev pub eaNext : Table → State → ℕ → Place → State
+eaNext K s a Ether = s
+eaNext K s a (Codel c) = putBoth s (K .task a) (held (taskAt s (K .task a) .holder) (actAt s a .clock) (taskAt s (K .task a))) a (entered K c (actAt s a))
 
 -- "`cx` A: A holds, not in R, standing before its codel, and no conflicting codel executes. It executes, clock 0."
 abbrev pub cxRefusal : Table → State → ℕ → ℕ
@@ -197,7 +204,7 @@ unfoldable pub urgentAct : Table → State → ℕ → Bool
 urgentAct K s a =
     accepted (iaRefusal K s a)
     or accepted (cxRefusal K s a)
-    or (isEther (actAt s a .place) and some (K .ncodels) (λ c. accepted (eaRefusal K s a c)))
+    or (isEther (actAt s a .place) and some (K .ncodels) (λ c. accepted (eaRefusal K s a (Codel c))))
 
 unfoldable pub urgent : Table → State → Bool
 urgent K s = some (K .ntasks) (urgentTask K s) or some (K .nacts) (urgentAct K s)
@@ -230,40 +237,55 @@ clocked d y = record { place = y .place; executing = y .executing; clock = aged 
 abbrev pub waitNext : Table → State → ℕ → State
 waitNext K s d = record { date = s .date + d; tasks = anew (K .ntasks) (λ t. timed d) noTask (s .tasks); acts = anew (K .nacts) (λ a. clocked d) noAct (s .acts) }
 
--- a step's refusal, and the state after it where it is accepted
+-- a step's refusal, and the state after it where it is accepted: of a task's step, of an activity's, of any
+abbrev pub taskRefusal : Table → State → ℕ → TaskStep → ℕ
+taskRefusal K s t St = stRefusal K s t
+taskRefusal K s t Fm = fmRefusal K s t
+
+abbrev pub actRefusal : Table → State → ℕ → ActStep → ℕ
+actRefusal K s a (Lm t) = lmRefusal K s t a
+actRefusal K s a Ia = iaRefusal K s a
+actRefusal K s a (Ea p) = eaRefusal K s a p
+actRefusal K s a Cx = cxRefusal K s a
+actRefusal K s a (Fa p) = faRefusal K s a p
+
 unfoldable pub refusal : Table → State → Step → ℕ
 refusal K s (Wait d) = waitRefusal K s d
-refusal K s (St t) = stRefusal K s t
 refusal K s (Sm t n r) = smRefusal K s t n r
-refusal K s (Lm t a) = lmRefusal K s t a
-refusal K s (Ia a) = iaRefusal K s a
-refusal K s (Ea a c) = eaRefusal K s a c
-refusal K s (Cx a) = cxRefusal K s a
-refusal K s (Fa a p) = faRefusal K s a p
-refusal K s (Fm t) = fmRefusal K s t
+refusal K s (OfTask t k) = taskRefusal K s t k
+refusal K s (OfAct a k) = actRefusal K s a k
+
+abbrev pub taskNext : State → ℕ → TaskStep → State
+taskNext s t St = stNext s t
+taskNext s t Fm = fmNext s t
+
+abbrev pub actNext : Table → State → ℕ → ActStep → State
+actNext K s a (Lm t) = lmNext K s t a
+actNext K s a Ia = iaNext K s a
+actNext K s a (Ea p) = eaNext K s a p
+actNext K s a Cx = cxNext K s a
+actNext K s a (Fa p) = faNext K s a p
 
 unfoldable pub next : Table → State → Step → State
 next K s (Wait d) = waitNext K s d
-next K s (St t) = stNext s t
 next K s (Sm t n r) = smNext K s t n r
-next K s (Lm t a) = lmNext K s t a
-next K s (Ia a) = iaNext K s a
-next K s (Ea a c) = eaNext K s a c
-next K s (Cx a) = cxNext K s a
-next K s (Fa a p) = faNext K s a p
-next K s (Fm t) = fmNext s t
+next K s (OfTask t k) = taskNext s t k
+next K s (OfAct a k) = actNext K s a k
 
--- the steps that 16 asks for: `sm`, `lm`, `ia`, `cx`, `fm`, and `ea` from ether
+-- the steps that 16 asks for: `sm`, `lm`, `ia`, `cx`, `fm`, and `ea` from ether; here those of an activity at the place p
+abbrev pub urgentAt : Place → ActStep → Bool
+urgentAt p (Lm t) = true
+urgentAt p Ia = true
+urgentAt p (Ea q) = isEther p
+urgentAt p Cx = true
+urgentAt p (Fa q) = false
+
 abbrev pub urgentKind : State → Step → Bool
 urgentKind s (Wait d) = false
-urgentKind s (St t) = false
 urgentKind s (Sm t n r) = true
-urgentKind s (Lm t a) = true
-urgentKind s (Ia a) = true
-urgentKind s (Ea a c) = isEther (actAt s a .place)
-urgentKind s (Cx a) = true
-urgentKind s (Fa a p) = false
-urgentKind s (Fm t) = true
+urgentKind s (OfTask t St) = false
+urgentKind s (OfTask t Fm) = true
+urgentKind s (OfAct a k) = urgentAt (actAt s a .place) k
 
 -- 11: "not a step"; else the step's
 abbrev pub lineRefusal : Table → State → Line → ℕ

@@ -43,12 +43,12 @@ abbrev pub stillAtEther : Place → Bool → Bool
 stillAtEther p e = isEther p implies not e
 
 -- "a holder not in R at a thread-safe codel executes"
-abbrev pub safeAt : Table → Place → Bool
-safeAt K Ether = false
-safeAt K (Codel c) = safe K c
+abbrev pub atSafe : Table → Place → Bool
+atSafe K Ether = false
+atSafe K (Codel c) = safe K c
 
 abbrev pub executesWhenSafe : Table → Bool → Bool → Place → Bool → Bool
-executesWhenSafe K h l p e = (h and not l and safeAt K p) implies e
+executesWhenSafe K h l p e = (h and not l and atSafe K p) implies e
 
 -- "an executing clock is at most the limit, every other clock is 0"
 abbrev pub clockOk : Table → Place → Bool → ℕ → Bool

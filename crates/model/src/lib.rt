@@ -62,17 +62,27 @@ pub struct State {
     pub acts: [Act; MOST_ACTS],
 }
 
-// A step, with the numbers and sets of its log line.
+// What a step of a task alone does.
+pub enum TaskStep {
+    St,
+    Fm,
+}
+
+// What a step of an activity does; `lm` names the task that lets it run, `ea` and `fa` where it goes.
+pub enum ActStep {
+    Lm(usize),
+    Ia,
+    Ea(Place),
+    Cx,
+    Fa(Place),
+}
+
+// A step, with the numbers and sets of its log line: what it is of, and then which.
 pub enum Step {
     Wait(u64),
-    St(usize),
     Sm(usize, u64, u64),
-    Lm(usize, usize),
-    Ia(usize),
-    Ea(usize, usize),
-    Cx(usize),
-    Fa(usize, Place),
-    Fm(usize),
+    OfTask(usize, TaskStep),
+    OfAct(usize, ActStep),
 }
 
 // What a log line says: a step, or none.

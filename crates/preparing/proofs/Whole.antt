@@ -8,9 +8,8 @@ use lib.Seq.{getD-set-other, getD-take, ext-getD, length-take-le}
 use lib.Dec.{eqb}
 use Rattle.row.specs.Kinds.{mostOf}
 use Rattle.table.specs.Tables.{slots, made, tableOf}
-use Rattle.table.specs.Checks.{checkTable}
+use Rattle.table.specs.Checks.{Passes}
 use Rattle.table.specs.declared.Table as table
-use Rattle.table.specs.declared.Answer.the-variants.{Fine}
 use Rattle.table.proofs.Fields.{five}
 use Rattle.table.proofs.WellFormed.{accepted-wellformed}
 use Rattle.model.specs.Limits.{mostActs, mostCodels}
@@ -173,7 +172,7 @@ module _ (K : Table) (F : Formed K) (O : Ordered K) (base : List ℕ) (size : le
         (λ d e. O .alone a 1 d e (omega arith)))
 
 -- an accepted table is laid out
-pub laid : (t : table.Table) → checkTable t .answer ≡ Fine → length (t .counts) ≡ 5 → length (t .rows) ≡ slots → Laid (t .counts) (t .rows)
+pub laid : (t : table.Table) → Passes t → length (t .counts) ≡ 5 → length (t .rows) ≡ slots → Laid (t .counts) (t .rows)
 unfolding tableOf mostOf
 laid t e c r =
     let w = accepted-wellformed t e in

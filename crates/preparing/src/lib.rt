@@ -6,8 +6,7 @@ ghost use lib.Dec.{eqb};
 ghost use Rattle.text.specs.Parts.{pick};
 ghost use Rattle.model.specs.Limits.{mostActs, mostCodels, mostEdges, mostMutexes};
 ghost use Rattle.table.specs.Tables.{tableOf, made, Counted};
-ghost use Rattle.table.specs.Checks.{checkTable};
-ghost use Rattle.table.specs.declared.Answer.the-variants.{Fine};
+ghost use Rattle.table.specs.Checks.{Passes};
 ghost use Rattle.prepared.specs.Prepared.{indexLength, Prepared, tableIn};
 ghost use Rattle.preparing.specs.Filling.{filled, ended, kindPlace, kindsNoted, pairNoted, pairsNoted, indexOf, Laid};
 use prepared::INDEX;
@@ -124,7 +123,7 @@ fn note_counts(counts: [usize; 5], index: &mut [u32])
 
 // The index of an accepted table.
 pub fn index_of(t: Table) -> [u32; INDEX]
-    requires { ⌜ checkTable t .answer ≡ Fine ⌝ }
+    requires { ⌜ Passes t ⌝ }
     ensures { λ r. ⌜ (r ≡ indexOf (tableOf t)) × Prepared (t .rows) r × (tableIn (t .rows) r ≡ tableOf t) ⌝ }
 {
     let rows = t.rows;

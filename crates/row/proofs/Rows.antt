@@ -18,34 +18,35 @@ use Rattle.text.proofs.Digits.{free-append}
 use Rattle.text.proofs.Picks.{cases, picked, false-true}
 use Rattle.text.proofs.Parts.{split-join, split-cut, join-split}
 use Rattle.text.proofs.Words.{word-read, word-written}
-use Rattle.row.specs.Kinds.{rowWords, noField, formOf}
+use Rattle.row.specs.Kinds.{noField, wordsIn, kinds, wordOf, formOf, kindIn}
 use Rattle.row.specs.Row.{readForm, onNumber, withField, atEnd, fieldsIn, onWord, rowIn, readRow, fieldText, rowParts, rowLine, rowText, tabbed, formOk, rowOk}
 use Rattle.row.specs.declared.Row.{Row}
 use Rattle.row.specs.declared.Line.{Line}
 use Rattle.row.specs.declared.Line.the-variants.{Is, Bad}
-use Rattle.row.proofs.Tables.{word-free, word-within}
+use Rattle.row.proofs.Tables.{free-high, words-at, word-high}
 use Rattle.row.proofs.Fields.{value-reads, value-read, value-free, value-most}
 
 bad-is : {r : Row} → Bad ≡ Is r → ⊥
 bad-is e = let z : _≡_ {A = ℕ} 0 1 = cc in omega arith
 
--- the six row words: each is read as its place, and what is read as a place is that word
-kind-reads : (k : ℕ) → k < 6 → wordIn rowWords (wordAt rowWords k) ≡ word.Is k
-unfolding rowWords
-kind-reads k h = word-written rowWords k refl h
+-- the row words: each is read as its place, and what is read as a place is that word
+abbrev rowWords : List ℕ
+rowWords = joinOn 9 (wordsIn kinds)
 
-kind-read : (w : List ℕ) (k : ℕ) → wordIn rowWords w ≡ word.Is k → (wordAt rowWords k ≡ w) × (k < 6)
-unfolding rowWords
-kind-read w k u = word-read rowWords w k u
+word-there : (k : ℕ) → wordAt rowWords k ≡ wordOf k
+unfolding wordAt wordOf
+word-there k = words-at kinds k
 
-kind-free : (c k : ℕ) → c < 48 → free c (wordAt rowWords k) ≡ true
-unfolding rowWords
-kind-free c k h = word-free c rowWords k h refl
+kind-reads : (k : ℕ) → k < 6 → kindIn (wordOf k) ≡ word.Is k
+unfolding kindIn wordIn
+kind-reads k h = rw (← word-there k) (word-written rowWords k refl h)
 
--- the word of a row has at most five letters
-pub word-width : (k : ℕ) → length (wordAt rowWords k) ≤ 5
-unfolding rowWords
-word-width k = word-within 5 rowWords k refl
+kind-read : (w : List ℕ) (k : ℕ) → kindIn w ≡ word.Is k → (wordOf k ≡ w) × (k < 6)
+unfolding kindIn wordIn
+kind-read w k u = rw (← word-there k) (word-read rowWords w k u)
+
+kind-free : (c k : ℕ) → c < 48 → free c (wordOf k) ≡ true
+kind-free c k h = free-high c (wordOf k) h (word-high k)
 
 -- what a row keeps to that a line can say
 pub record Bounds (r : Row) : Type 0 where
@@ -111,7 +112,7 @@ with-read form ps k r h =
     some (p ∷ ps) e h = value p ps (readForm form p) refl e (rw e at h)
 
 -- the parts of a row, field after field
-parts-are : (r : Row) → rowParts r ≡ wordAt rowWords (r .kind) ∷ (fieldText (formOf (r .kind) 0) (r .a) ++ (fieldText (formOf (r .kind) 1) (r .b) ++ (fieldText (formOf (r .kind) 2) (r .c) ++ [])))
+parts-are : (r : Row) → rowParts r ≡ wordOf (r .kind) ∷ (fieldText (formOf (r .kind) 0) (r .a) ++ (fieldText (formOf (r .kind) 1) (r .b) ++ (fieldText (formOf (r .kind) 2) (r .c) ++ [])))
 parts-are r = simp (append-assoc, append-nil)
 
 -- neither tab nor newline stands in them
@@ -143,7 +144,7 @@ unfolding readRow rowLine
 row-reads r h =
     let b = row-bounds r h in
     let k = r .kind in
-    ap rowIn (split-join 9 (wordAt rowWords k) _ (parts-free 9 r (omega arith)) ∙ parts-are r)
+    ap rowIn (split-join 9 (wordOf k) _ (parts-free 9 r (omega arith)) ∙ parts-are r)
     ∙ rw (kind-reads k (b .kind))
     (with-reads (formOf k 0) (r .a) _ _ (b .first) ∙ with-reads (formOf k 1) (r .b) _ _ (b .second) ∙ with-reads (formOf k 2) (r .c) [] _ (b .third))
 
@@ -156,7 +157,7 @@ row-read s r h = line (splitOn 9 s) refl h
     last [] x e = (refl, cc)
     last (p ∷ ps) x e = absurd (bad-is e)
 
-    fields : (w : List ℕ) (ps : List (List ℕ)) (k : ℕ) → splitOn 9 s ≡ w ∷ ps → wordIn rowWords w ≡ word.Is k → fieldsIn k ps ≡ Is r → (rowLine r ≡ s) × (rowOk r ≡ true)
+    fields : (w : List ℕ) (ps : List (List ℕ)) (k : ℕ) → splitOn 9 s ≡ w ∷ ps → kindIn w ≡ word.Is k → fieldsIn k ps ≡ Is r → (rowLine r ≡ s) × (rowOk r ≡ true)
     fields w ps k q u h =
         let t = kind-read w k u in
         let a = with-read (formOf k 0) ps _ r h in
@@ -169,9 +170,9 @@ row-read s r h = line (splitOn 9 s) refl h
 
     line : (ps : List (List ℕ)) → splitOn 9 s ≡ ps → rowIn ps ≡ Is r → (rowLine r ≡ s) × (rowOk r ≡ true)
     line [] q h = absurd (bad-is h)
-    line (w ∷ ps) q h = kind (wordIn rowWords w) refl h
+    line (w ∷ ps) q h = kind (kindIn w) refl h
       where
-        kind : (x : Word) → wordIn rowWords w ≡ x → onWord x ps ≡ Is r → (rowLine r ≡ s) × (rowOk r ≡ true)
+        kind : (x : Word) → kindIn w ≡ x → onWord x ps ≡ Is r → (rowLine r ≡ s) × (rowOk r ≡ true)
         kind (word.Is k) u h = fields w ps k q u h
         kind word.Unknown u h = absurd (bad-is h)
 
@@ -189,10 +190,10 @@ unfolding tabbed
 tabs-text form v ps = cases (eqb form noField) (λ e. rw e) (λ e. rw e)
 
 -- the line of a row: its word, and each field with its tab
-pub row-line : (r : Row) → rowLine r ≡ wordAt rowWords (r .kind) ++ (tabbed (formOf (r .kind) 0) (r .a) ++ (tabbed (formOf (r .kind) 1) (r .b) ++ (tabbed (formOf (r .kind) 2) (r .c) ++ [])))
+pub row-line : (r : Row) → rowLine r ≡ wordOf (r .kind) ++ (tabbed (formOf (r .kind) 0) (r .a) ++ (tabbed (formOf (r .kind) 1) (r .b) ++ (tabbed (formOf (r .kind) 2) (r .c) ++ [])))
 unfolding rowLine
 row-line r = rw (parts-are r, join-tabs, tabs-text, tabs-text, tabs-text)
 
 -- and how long its text is
-pub row-length : (r : Row) → length (rowText r) ≡ length (wordAt rowWords (r .kind)) + length (tabbed (formOf (r .kind) 0) (r .a)) + length (tabbed (formOf (r .kind) 1) (r .b)) + length (tabbed (formOf (r .kind) 2) (r .c)) + 1
+pub row-length : (r : Row) → length (rowText r) ≡ length (wordOf (r .kind)) + length (tabbed (formOf (r .kind) 0) (r .a)) + length (tabbed (formOf (r .kind) 1) (r .b)) + length (tabbed (formOf (r .kind) 2) (r .c)) + 1
 row-length r = rw (row-line r) (simp length-append (omega arith))

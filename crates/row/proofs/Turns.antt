@@ -1,17 +1,17 @@
 -- One law for each turn and each exit of the code, over plain variables.
-use Prim.Native.Nat.{ℕ, _+_, _-_, _≤_, _<_}
+use Prim.Native.Nat.{ℕ, suc, _+_, _-_, _≤_, _<_}
 use mathlib.Core.Path.{_≡_, refl, sym, ap, _∙_}
 use mathlib.Core.List.{List, [], _∷_, _++_}
 use mathlib.Core.Bool.{Bool, true, false, not}
 use native.Mathlib.Omega.{arith}
 use native.Mathlib.Numerals.{add-one}
-use lib.ListN.{length, take, drop, set, length-set, length-append}
-use lib.Seq.{sets, length-sets}
+use lib.ListN.{length, take, drop, set, length-set, length-append, drop-of-length-le}
+use lib.Seq.{sets, length-sets, drop-cons}
 use lib.Dec.{leb, eqb}
 use borrow.Author.Tests.{eq-eqb, ne-eqb}
-use Rattle.text.specs.Parts.{partsFrom, firstAt}
+use Rattle.text.specs.Parts.{pick, partsFrom, firstAt}
 use Rattle.text.specs.Number.{readNumber, digits}
-use Rattle.text.specs.Words.{wordIn, wordAt}
+use Rattle.text.specs.Words.{sameList, indexFrom, wordIn, wordAt}
 use Rattle.text.specs.Fields.{mostDigits, etherValue, etherWord, readTarget, gotAt, behind}
 use Rattle.text.specs.Put.{Put}
 use Rattle.text.specs.declared.Number.{Number}
@@ -24,11 +24,13 @@ use Rattle.text.proofs.Picks.{cases}
 use Rattle.text.proofs.Parts.{parts-cut, parts-none, parts-all}
 use Rattle.text.proofs.Puts.{put-fits, laid-length, sets-append}
 use Rattle.text.proofs.Turns.{put-none, put-room, put-whole, behind-parts, behind-ends}
-use Rattle.row.specs.Kinds.{rowWords, kindWords, modeWords, noField, aNumber, aKind, aMode, formOf}
+use Rattle.row.specs.Kinds.{kindWords, modeWords, noField, aNumber, aKind, aMode, kinds, endKind, kindAt, laidOut, wordOf, formOf, wordsIn, kindIn}
 use Rattle.row.specs.Row.{placeIn, readForm, onNumber, withField, atEnd, onWord, rowIn, readRow, fieldBehind, valueText, tabbed, rowLine, rowText}
+use Rattle.row.specs.declared.Kind.{Kind}
 use Rattle.row.specs.declared.Row.{Row}
 use Rattle.row.specs.declared.Line.{Line}
 use Rattle.row.specs.declared.Line.the-variants.{Is, Bad}
+use Rattle.row.proofs.Tables.{words-at, entry-word}
 use Rattle.row.proofs.Rows.{with-none, row-line, row-length}
 
 -- what a field of a form says
@@ -115,8 +117,33 @@ field-ends form s at g q h v e u =
     (λ f. let t : got.Is 0 at ≡ got.Is v e = rw f at (sym q ∙ u) in let z : at ≡ e = cc in omega arith)
     (λ f. behind-ends (readForm form) s at g (rw f at q) v e u)
 
+-- which kind a word says: none of the first k kinds, and what comes of the others
+abbrev pub Looking : List ℕ → ℕ → Type 0
+Looking p k = (k ≤ 6) × (indexFrom k p (drop k (wordsIn kinds)) ≡ kindIn p)
+
+pub look-start : (p : List ℕ) → Looking p 0
+unfolding kindIn
+look-start p = (omega arith, refl)
+
+module _ (p : List ℕ) (k : ℕ) (c : Looking p k) where
+  pub look-end : endKind < k → word.Unknown ≡ kindIn p
+  look-end h = rw (drop-of-length-le (wordsIn kinds) h) at (c .1)
+
+  module _ (h : k ≤ endKind) (x : Kind) (e : x ≡ laidOut (kindAt k)) (b : Bool) (q : b ≡ sameList p (take (x .1 - 0) (drop 0 (x .0)))) where
+    next : pick b (word.Is k) (indexFrom (suc k) p (drop (suc k) (wordsIn kinds))) ≡ kindIn p
+    unfolding wordOf
+    next =
+        let l : k < 6 = omega arith in
+        rw (q, entry-word x k e) (rw (drop-cons (wordsIn kinds) k [] l, words-at kinds k) at (c .1))
+
+    pub look-found : b ≡ true → word.Is k ≡ kindIn p
+    look-found y = rw y at next
+
+    pub look-on : b ≡ false → Looking p (k + 1)
+    look-on y = (omega arith, rw add-one (rw y at next))
+
 -- what a line says: its word, its three fields, its end
-module _ (s : List ℕ) (w : ℕ) (fw : w ≡ firstAt s 0 9) (x : Word) (ew : x ≡ wordIn rowWords (take (w - 0) (drop 0 s))) where
+module _ (s : List ℕ) (w : ℕ) (fw : w ≡ firstAt s 0 9) (x : Word) (ew : x ≡ kindIn (take (w - 0) (drop 0 s))) where
   opened : readRow s ≡ onWord x (partsFrom 9 s (w + 1))
   unfolding readRow
   opened = ap rowIn (sym (parts-all 9 s) ∙ parts-cut 9 s 0 (omega arith)) ∙ rw (← fw, ← ew)
@@ -165,7 +192,7 @@ module _ (form v : ℕ) (b : List ℕ) (at r : ℕ) (after : List ℕ) (p : Put 
       rw t (omega (arith, e .0), e .1 ∙ rw add-one)
 
 -- how long a row's text is
-pub width-whole : (r : Row) (w f₀ a f₁ b f₂ c : ℕ) → w ≡ length (wordAt rowWords (r .kind))
+pub width-whole : (r : Row) (w f₀ a f₁ b f₂ c : ℕ) → w ≡ length (wordOf (r .kind))
     → f₀ ≡ formOf (r .kind) 0 → a ≡ length (tabbed f₀ (r .a))
     → f₁ ≡ formOf (r .kind) 1 → b ≡ length (tabbed f₁ (r .b))
     → f₂ ≡ formOf (r .kind) 2 → c ≡ length (tabbed f₂ (r .c))
@@ -194,11 +221,11 @@ module _ (b : List ℕ) (at : ℕ) (text : List ℕ) (p : ℕ) (now x rest : Lis
   left-room h = omega (arith, l .ends, l .kept, length-append x rest)
 
 -- a line written: its word and its three fields
-module _ (r : Row) (b : List ℕ) (at : ℕ) (room : at + length (rowLine r) ≤ length b) (w : ℕ) (b₁ : List ℕ) (h₁ : Put b at (wordAt rowWords (r .kind)) w b₁) (f₀ : ℕ) (e₀ : f₀ ≡ formOf (r .kind) 0) where
+module _ (r : Row) (b : List ℕ) (at : ℕ) (room : at + length (rowLine r) ≤ length b) (w : ℕ) (b₁ : List ℕ) (h₁ : Put b at (wordOf (r .kind)) w b₁) (f₀ : ℕ) (e₀ : f₀ ≡ formOf (r .kind) 0) where
   left₀ : Left b at (rowLine r) w b₁ (tabbed f₀ (r .a) ++ (tabbed (formOf (r .kind) 1) (r .b) ++ (tabbed (formOf (r .kind) 2) (r .c) ++ [])))
   left₀ =
       let whole = left-start b at (rowLine r) _ (row-line r) in
-      rw e₀ (left-more b at (rowLine r) at b (wordAt rowWords (r .kind)) _ whole w b₁ (put-fits (left-room b at (rowLine r) at b (wordAt rowWords (r .kind)) _ whole room) h₁))
+      rw e₀ (left-more b at (rowLine r) at b (wordOf (r .kind)) _ whole w b₁ (put-fits (left-room b at (rowLine r) at b (wordOf (r .kind)) _ whole room) h₁))
 
   pub first-room : w + length (tabbed f₀ (r .a)) ≤ length b₁
   first-room = left-room b at (rowLine r) w b₁ (tabbed f₀ (r .a)) _ left₀ room

@@ -1,18 +1,11 @@
--- The rows of a table's text, as the page lists them: each row's word, how many fields it has, how many rows there may be, and what each
--- field says.
-use Prim.Native.Nat.{ℕ, _+_, _*_}
-use mathlib.Core.List.{List, [], _∷_}
-use lib.ListN.{getD}
-use lib.Dec.{ltb}
-use Rattle.text.specs.Parts.{pick}
+-- The rows of a table's text, as the page lists them: each row's word, its fields by what they say, and how many rows there may be.
+use Prim.Native.Nat.{ℕ, _-_}
+use mathlib.Core.List.{List, [], _∷_, _++_}
+use lib.ListN.{length, getD, replicate}
+use Rattle.text.specs.Words.{indexFrom}
+use Rattle.text.specs.declared.Word.{Word}
 use Rattle.model.specs.Limits.{mostTasks, mostActs, mostCodels, mostEdges, mostMutexes}
-
--- `task`, `act`, `codel`, `edge`, `mutex`, `end`: a row's kind is its place here
-unfoldable pub rowWords : List ℕ
-rowWords = 116 ∷ 97 ∷ 115 ∷ 107 ∷ 9 ∷ 97 ∷ 99 ∷ 116 ∷ 9 ∷ 99 ∷ 111 ∷ 100 ∷ 101 ∷ 108 ∷ 9 ∷ 101 ∷ 100 ∷ 103 ∷ 101 ∷ 9 ∷ 109 ∷ 117 ∷ 116 ∷ 101 ∷ 120 ∷ 9 ∷ 101 ∷ 110 ∷ 100 ∷ []
-
-abbrev pub endKind : ℕ
-endKind = 5
+use Rattle.row.specs.declared.Kind.{Kind}
 
 -- what a field says: nothing, a number, `start`/`stop`/`main`, `run`/`pause`, or a codel or `ether`
 abbrev pub noField : ℕ
@@ -30,18 +23,66 @@ aMode = 3
 abbrev pub aTarget : ℕ
 aTarget = 4
 
--- for each kind: how many fields it has, how many rows there may be, and what its fields say, three places each
+-- "row", "fields", "most rows"
+pub record RowKind : Type 0 where
+  pub word : List ℕ
+  pub fields : List ℕ
+  pub most : ℕ
+
+abbrev pub row : List ℕ → List ℕ → ℕ → RowKind
+row word fields most = record { word = word; fields = fields; most = most }
+
+-- `task`, `act`, `codel`, `edge`, `mutex`, `end`: a row's kind is its place here
+abbrev pub kinds : List RowKind
+kinds =
+    row (116 ∷ 97 ∷ 115 ∷ 107 ∷ []) (aNumber ∷ aNumber ∷ []) mostTasks
+    ∷ row (97 ∷ 99 ∷ 116 ∷ []) (aNumber ∷ []) mostActs
+    ∷ row (99 ∷ 111 ∷ 100 ∷ 101 ∷ 108 ∷ []) (aNumber ∷ aKind ∷ aNumber ∷ []) mostCodels
+    ∷ row (101 ∷ 100 ∷ 103 ∷ 101 ∷ []) (aNumber ∷ aTarget ∷ aMode ∷ []) mostEdges
+    ∷ row (109 ∷ 117 ∷ 116 ∷ 101 ∷ 120 ∷ []) (aNumber ∷ aNumber ∷ []) mostMutexes
+    ∷ row (101 ∷ 110 ∷ 100 ∷ []) (aNumber ∷ []) 1
+    ∷ []
+
+abbrev pub endKind : ℕ
+endKind = 5
+
+-- past the last kind there is none
+abbrev pub none : RowKind
+none = row [] [] 0
+
+abbrev pub kindAt : ℕ → RowKind
+kindAt k = getD kinds k none
+
+-- as the code holds it: the word filled up with spaces to five letters, its letters and its fields counted, the fields filled up to three
+unfoldable pub laidOut : RowKind → Kind
+laidOut x = (
+  x .word ++ replicate (5 - length (x .word)) 32,
+  length (x .word),
+  length (x .fields),
+  x .most,
+  x .fields ++ replicate (3 - length (x .fields)) noField,
+)
+
+unfoldable pub wordOf : ℕ → List ℕ
+wordOf k = kindAt k .word
+
 unfoldable pub fieldsOf : ℕ → ℕ
-fieldsOf k = getD (2 ∷ 1 ∷ 3 ∷ 3 ∷ 2 ∷ 1 ∷ []) k 0
+fieldsOf k = length (kindAt k .fields)
 
 unfoldable pub mostOf : ℕ → ℕ
-mostOf k = getD (mostTasks ∷ mostActs ∷ mostCodels ∷ mostEdges ∷ mostMutexes ∷ 1 ∷ []) k 0
+mostOf k = kindAt k .most
 
+-- what field j of a row of a kind says
 unfoldable pub formOf : ℕ → ℕ → ℕ
-formOf k j =
-    pick (ltb j (fieldsOf k))
-    (getD (1 ∷ 1 ∷ 0 ∷ 1 ∷ 0 ∷ 0 ∷ 1 ∷ 2 ∷ 1 ∷ 1 ∷ 4 ∷ 3 ∷ 1 ∷ 1 ∷ 0 ∷ 1 ∷ 0 ∷ 0 ∷ []) (k * 3 + j) 0)
-    noField
+formOf k j = getD (kindAt k .fields) j noField
+
+-- which kind a row's word says
+abbrev pub wordsIn : List RowKind → List (List ℕ)
+wordsIn [] = []
+wordsIn (x ∷ xs) = x .word ∷ wordsIn xs
+
+unfoldable pub kindIn : List ℕ → Word
+kindIn p = indexFrom 0 p (wordsIn kinds)
 
 -- the words of a field
 unfoldable pub kindWords : List ℕ

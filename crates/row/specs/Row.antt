@@ -13,7 +13,7 @@ use Rattle.text.specs.declared.Word.{Word}
 use Rattle.text.specs.declared.Word.the-variants as word
 use Rattle.text.specs.declared.Got.{Got}
 use Rattle.text.specs.declared.Got.the-variants as got
-use Rattle.row.specs.Kinds.{rowWords, kindWords, modeWords, noField, aNumber, aKind, aMode, formOf}
+use Rattle.row.specs.Kinds.{kindWords, modeWords, noField, aNumber, aKind, aMode, wordOf, formOf, kindIn}
 use Rattle.row.specs.declared.Row.{Row}
 use Rattle.row.specs.declared.Line.{Line}
 use Rattle.row.specs.declared.Line.the-variants.{Is, Bad}
@@ -57,7 +57,7 @@ onWord word.Unknown ps = Bad
 
 abbrev pub rowIn : List (List ℕ) → Line
 rowIn [] = Bad
-rowIn (w ∷ ps) = onWord (wordIn rowWords w) ps
+rowIn (w ∷ ps) = onWord (kindIn w) ps
 
 -- what a line says, without its newline
 unfoldable pub readRow : List ℕ → Line
@@ -80,7 +80,7 @@ fieldText form v = pick (eqb form noField) [] (valueText form v ∷ [])
 
 abbrev pub rowParts : Row → List (List ℕ)
 rowParts r =
-    wordAt rowWords (r .kind)
+    wordOf (r .kind)
     ∷ (fieldText (formOf (r .kind) 0) (r .a) ++ fieldText (formOf (r .kind) 1) (r .b) ++ fieldText (formOf (r .kind) 2) (r .c))
 
 -- the line of a row, without its newline; with it

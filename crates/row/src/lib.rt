@@ -4,8 +4,13 @@ ghost use Prim.Native.Nat.{_+_, _≤_};
 ghost use lib.ListN.{length};
 ghost use lib.Seq.{sets};
 ghost use Rattle.text.specs.Put.{Put};
-ghost use Rattle.row.specs.Kinds.{mostOf, formOf};
+ghost use Rattle.row.specs.Kinds.{kindAt, laidOut, wordOf, mostOf, formOf, kindIn};
 ghost use Rattle.row.specs.Row.{placeIn, readForm, readRow, fieldBehind, valueText, tabbed, rowLine, rowText};
+use model::MOST_ACTS;
+use model::MOST_CODELS;
+use model::MOST_EDGES;
+use model::MOST_MUTEXES;
+use model::MOST_TASKS;
 use text::Got;
 use text::Number;
 use text::Word;
@@ -13,10 +18,7 @@ use text::Word;
 // The kind of an `end` row: where the page's row words end.
 pub const END: usize = 5;
 
-// The row words; a row's kind is its word's place.
-const WORDS: [u8; 29] = *b"task\tact\tcodel\tedge\tmutex\tend";
-
-// What a field says: nothing, a number, a codel's kind, an edge's mode; any other form is a codel or `ether`.
+// What a field says: nothing, a number, a codel's kind, an edge's mode, a codel or `ether`.
 pub const NO_FIELD: usize = 0;
 
 const A_NUMBER: usize = 1;
@@ -25,19 +27,21 @@ pub const A_KIND: usize = 2;
 
 pub const A_MODE: usize = 3;
 
-// For each row word, in their order: how many fields it has, how many rows there may be, and what its fields say, three places each.
-const FIELDS: [usize; 6] = [2, 1, 3, 3, 2, 1];
+const A_TARGET: usize = 4;
 
-const MOST: [usize; 6] = [
-    model::MOST_TASKS,
-    model::MOST_ACTS,
-    model::MOST_CODELS,
-    model::MOST_EDGES,
-    model::MOST_MUTEXES,
-    1,
+// A row of the page's table: its word, filled up to five with spaces, and its letters; how many fields; the most rows; what each field says,
+// filled up to three with 0.
+struct Kind([u8; 5], usize, usize, usize, [usize; 3]);
+
+// The page's table of rows; a row's kind is its place.
+const KINDS: [Kind; 6] = [
+    Kind(*b"task ", 4, 2, MOST_TASKS, [A_NUMBER, A_NUMBER, 0]),
+    Kind(*b"act  ", 3, 1, MOST_ACTS, [A_NUMBER, 0, 0]),
+    Kind(*b"codel", 5, 3, MOST_CODELS, [A_NUMBER, A_KIND, A_NUMBER]),
+    Kind(*b"edge ", 4, 3, MOST_EDGES, [A_NUMBER, A_TARGET, A_MODE]),
+    Kind(*b"mutex", 5, 2, MOST_MUTEXES, [A_NUMBER, A_NUMBER, 0]),
+    Kind(*b"end  ", 3, 1, 1, [A_NUMBER, 0, 0]),
 ];
-
-const FORMS: [usize; 18] = [1, 1, 0, 1, 0, 0, 1, 2, 1, 1, 4, 3, 1, 1, 0, 1, 0, 0];
 
 // A row: its kind, and its fields' values, 0 where it has no such field. A word's value is its place among its words.
 pub struct Row {
@@ -53,27 +57,69 @@ pub enum Line {
     Bad,
 }
 
+// The row of the page's table for a kind; past the last kind nothing.
+fn kind_at(k: usize) -> Kind
+    ensures { λ r. ⌜ r ≡ laidOut (kindAt k) ⌝ }
+{
+    if END < k {
+        return Kind(*b"     ", 0, 0, 0, [0, 0, 0]);
+    }
+    KINDS[k]
+}
+
 // How many rows of a kind there may be.
 pub fn most(k: usize) -> usize
     ensures { λ r. ⌜ r ≡ mostOf k ⌝ }
 {
-    if 6 <= k {
-        return 0;
-    }
-    MOST[k]
+    let kind = kind_at(k);
+    kind.3
 }
 
 // What field j of a row of a kind says.
 pub fn form(k: usize, j: usize) -> usize
     ensures { λ r. ⌜ r ≡ formOf k j ⌝ }
 {
-    if 6 <= k {
+    let kind = kind_at(k);
+    if kind.2 <= j {
         return NO_FIELD;
     }
-    if FIELDS[k] <= j {
-        return NO_FIELD;
+    let forms = kind.4;
+    forms[j]
+}
+
+// Which kind a row's word says.
+fn kind_in(p: &[u8]) -> Word
+    ensures { λ r. ⌜ r ≡ kindIn (now (p .entry)) ⌝ }
+{
+    let mut k = 0;
+    while k <= END {
+        let kind = kind_at(k);
+        let word = kind.0;
+        let n = kind.1;
+        if text::same(p, &word[0..n]) {
+            return Word::Is(k);
+        }
+        k += 1;
     }
-    FORMS[k * 3 + j]
+    Word::Unknown
+}
+
+// How many letters the word of a kind has.
+fn letters(k: usize) -> usize
+    ensures { λ r. ⌜ r ≡ length (wordOf k) ⌝ }
+{
+    let kind = kind_at(k);
+    kind.1
+}
+
+// Writes the word of a kind.
+fn put_kind(buf: &mut [u8], at: usize, k: usize) -> usize
+    ensures { λ r. ⌜ Put (now (buf .entry)) at (wordOf k) r (now (buf .exit)) ⌝ }
+{
+    let kind = kind_at(k);
+    let word = kind.0;
+    let n = kind.1;
+    text::put_bytes(buf, at, &word[0..n])
 }
 
 // A word's place as a number.
@@ -126,7 +172,7 @@ pub fn read_row(line: &[u8]) -> Line
     ensures { λ r. ⌜ r ≡ readRow (now (line .entry)) ⌝ }
 {
     let w = text::next_byte(line, 0, text::TAB);
-    let Word::Is(k) = text::word_in(&WORDS, &line[0..w]) else {
+    let Word::Is(k) = kind_in(&line[0..w]) else {
         return Line::Bad;
     };
     let Got::Is(a, p) = field_behind(line, w, form(k, 0)) else {
@@ -181,7 +227,7 @@ pub fn row_width(r: Row) -> usize
     let a = field_width(form(k, 0), r.a);
     let b = field_width(form(k, 1), r.b);
     let c = field_width(form(k, 2), r.c);
-    text::word_width(&WORDS, k) + a + b + c + 1
+    letters(k) + a + b + c + 1
 }
 
 // Writes a value of a form.
@@ -221,7 +267,7 @@ fn put_line(buf: &mut [u8], at: usize, r: Row) -> usize
     ensures { λ e. ⌜ (e ≡ at + length (rowLine r)) × (now (buf .exit) ≡ sets (now (buf .entry)) at (rowLine r)) ⌝ }
 {
     let k = r.kind;
-    let w = text::put_word(buf, at, &WORDS, k);
+    let w = put_kind(buf, at, k);
     let p = put_field(buf, w, form(k, 0), r.a);
     let q = put_field(buf, p, form(k, 1), r.b);
     put_field(buf, q, form(k, 2), r.c)

@@ -1,21 +1,27 @@
--- The rows that a step or a place names, and what is tested of a step by its kind.
+-- The rows that a step or a place names, and what is told of a step by its kind.
 use mathlib.Core.Bool.{Bool, true, false}
-use mathlib.Core.Path.{_≡_, refl, sym, ap, subst, _∙_}
+use mathlib.Core.List.{[], _∷_}
+use mathlib.Core.Path.{_≡_, refl, sym, ap, _∙_}
+use native.Mathlib.Omega.{arith}
+use types.Run.{OneOf, miss}
+use denote.Enum.Declared.{tagOf}
 use Prim.Native.Nat.{ℕ, _<_}
 use lib.Dec.{T, ltb, ltb→lt}
-use Rattle.model.specs.Tests.{_and_}
+use Rattle.model.specs.Tests.{_and_, need}
 use Rattle.model.specs.Tables.{Table, isStop, known}
 use Rattle.model.specs.Rules.{stopOf}
 use Rattle.model.specs.declared.Task.{Task}
 use Rattle.model.specs.declared.Act.{Act}
 use Rattle.model.specs.declared.Place.{Place}
 use Rattle.model.specs.declared.Place.the-variants.{Ether, Codel}
-use Rattle.model.specs.declared.Step.{Step}
-use Rattle.model.specs.declared.Step.the-variants.{St, Lm, Ia, Ea, Cx, Fa}
-use Rattle.model.proofs.Tests.{and-l, and-r}
+use Rattle.model.specs.declared.TaskStep.{TaskStep}
+use Rattle.model.specs.declared.ActStep.{ActStep}
+use Rattle.model.specs.declared.ActStep.the-variants.{Lm, Ia, Ea, Cx, Fa}
+use Rattle.model.proofs.ActStep.{the-type}
+use Rattle.model.proofs.Tests.{and-l, and-r, need-of}
 use Rattle.model.proofs.Asked.{known-codel}
 use Rattle.model.proofs.StepsKeep.{first-at}
-use Rattle.rules.specs.Local.{taskLocal, local, named, taskIn}
+use Rattle.rules.specs.Local.{taskLocal, local, eaLocal, naming, taskIn}
 use Rattle.rules.specs.declared.TaskTold.{TaskTold}
 use Rattle.rules.specs.declared.Told.{Told}
 
@@ -23,62 +29,60 @@ use Rattle.rules.specs.declared.Told.{Told}
 pub stop-codel : (K : Table) (a : ℕ) (p : Place) (c : ℕ) → p ≡ stopOf K a → p ≡ Codel c → c < K .ncodels
 stop-codel K a p c e f = first-at (K .ncodels) (isStop K a) c (sym e ∙ f) .0
 
--- a step that names a task
-pub task-named : (K : Table) (x z : Step) (t : ℕ) → x ≡ z → named K z ≡ ltb t (K .ntasks) → T (named K x) → t < K .ntasks
-task-named K x z t e f h = ltb→lt t (K .ntasks) (subst T f (subst (λ w. T (named K w)) e h))
+-- the rows that an activity's step names exist: its activity, the codel of `ea`, the target of `fa`
+pub act-there : (K : Table) (a : ℕ) (k : ActStep) → naming K a k ≡ 0 → a < K .nacts
+unfolding naming
+act-there K a (Lm t) h = ltb→lt a _ (and-r (ltb t (K .ntasks)) _ (need-of (ltb t (K .ntasks) and ltb a (K .nacts)) 12 0 tt h .0))
+act-there K a Ia h = ltb→lt a _ (need-of (ltb a (K .nacts)) 12 0 tt h .0)
+act-there K a (Ea Ether) h = absurd (omega arith)
+act-there K a (Ea (Codel c)) h = ltb→lt a _ (and-l (ltb a (K .nacts)) _ (need-of (ltb a (K .nacts) and ltb c (K .ncodels)) 12 0 tt h .0))
+act-there K a Cx h = ltb→lt a _ (need-of (ltb a (K .nacts)) 12 0 tt h .0)
+act-there K a (Fa p) h = ltb→lt a _ (and-l (ltb a (K .nacts)) _ (need-of (ltb a (K .nacts) and known K p) 12 0 tt h .0))
 
--- the rows that a step names exist
-module _ (K : Table) (x : Step) (h : T (named K x)) where
-  at : (z : Step) → x ≡ z → T (named K z)
-  at z e = subst (λ w. T (named K w)) e h
+module _ (K : Table) (a : ℕ) (k : ActStep) (h : naming K a k ≡ 0) where
+  pub ea-codel : (p : Place) (c : ℕ) → k ≡ Ea p → p ≡ Codel c → c < K .ncodels
+  unfolding naming
+  ea-codel p c e f =
+      let g : naming K a (Ea (Codel c)) ≡ 0 = rw (e, f) at h in
+      ltb→lt c _ (and-r (ltb a (K .nacts)) _ (need-of (ltb a (K .nacts) and ltb c (K .ncodels)) 12 0 tt g .0))
 
-  pub st-task : (t : ℕ) → x ≡ St t → t < K .ntasks
-  unfolding named
-  st-task t e = ltb→lt t (K .ntasks) (at (St t) e)
+  pub fa-place : (p : Place) → k ≡ Fa p → T (known K p)
+  unfolding naming
+  fa-place p e =
+      let g : naming K a (Fa p) ≡ 0 = rw e at h in
+      and-r (ltb a (K .nacts)) _ (need-of (ltb a (K .nacts) and known K p) 12 0 tt g .0)
 
-  pub lm-act : (t a : ℕ) → x ≡ Lm t a → a < K .nacts
-  unfolding named
-  lm-act t a e = ltb→lt a (K .nacts) (and-r (ltb t (K .ntasks)) _ (at (Lm t a) e))
-
-  pub ia-act : (a : ℕ) → x ≡ Ia a → a < K .nacts
-  unfolding named
-  ia-act a e = ltb→lt a (K .nacts) (at (Ia a) e)
-
-  pub ea-act : (a c : ℕ) → x ≡ Ea a c → a < K .nacts
-  unfolding named
-  ea-act a c e = ltb→lt a (K .nacts) (and-l (ltb a (K .nacts)) _ (at (Ea a c) e))
-
-  pub ea-codel : (a c : ℕ) → x ≡ Ea a c → c < K .ncodels
-  unfolding named
-  ea-codel a c e = ltb→lt c (K .ncodels) (and-r (ltb a (K .nacts)) _ (at (Ea a c) e))
-
-  pub cx-act : (a : ℕ) → x ≡ Cx a → a < K .nacts
-  unfolding named
-  cx-act a e = ltb→lt a (K .nacts) (at (Cx a) e)
-
-  pub fa-act : (a : ℕ) (p : Place) → x ≡ Fa a p → a < K .nacts
-  unfolding named
-  fa-act a p e = ltb→lt a (K .nacts) (and-l (ltb a (K .nacts)) _ (at (Fa a p) e))
-
-  pub fa-place : (a : ℕ) (p : Place) → x ≡ Fa a p → T (known K p)
-  unfolding named
-  fa-place a p e = and-r (ltb a (K .nacts)) _ (at (Fa a p) e)
-
-pub ruleset rows = (known-codel, stop-codel, st-task, lm-act, ia-act, ea-act, ea-codel, cx-act, fa-act, fa-place)
+pub ruleset rows = (known-codel, stop-codel, act-there, ea-codel, fa-place)
 
 -- what is told of a step is told by its kind
-module _ (K : Table) (x z : Step) (e : x ≡ z) where
-  pub task-is : (n : ℕ) → n ≡ taskIn K z → n ≡ taskIn K x
-  task-is n q = q ∙ ap (taskIn K) (sym e)
+module _ (K : Table) (a : ℕ) (k z : ActStep) (e : k ≡ z) where
+  pub task-is : (n : ℕ) → n ≡ taskIn K a z → n ≡ taskIn K a k
+  task-is n q = q ∙ ap (taskIn K a) (sym e)
 
-  pub local-is : (b : Bool) (u : Task) (v : Act) (r : Told) → r ≡ local K z b u v → r ≡ local K x b u v
-  local-is b u v r q = q ∙ ap (λ w. local K w b u v) (sym e)
+  pub local-is : (b : Bool) (u : Task) (v : Act) (r : Told) → r ≡ local K a z b u v → r ≡ local K a k b u v
+  local-is b u v r q = q ∙ ap (λ w. local K a w b u v) (sym e)
 
-  pub task-local-is : (b : Bool) (u : Task) (r : TaskTold) → r ≡ taskLocal K z b u → r ≡ taskLocal K x b u
-  task-local-is b u r q = q ∙ ap (λ w. taskLocal K w b u) (sym e)
+  pub named-is : (n : ℕ) → n ≡ naming K a z → n ≡ naming K a k
+  named-is n q = q ∙ ap (naming K a) (sym e)
 
-  pub named-is : (b : Bool) → b ≡ named K z → b ≡ named K x
-  named-is b q = q ∙ ap (named K) (sym e)
+pub task-local-is : (K : Table) (t : ℕ) (k z : TaskStep) (b : Bool) (u : Task) (r : TaskTold) → k ≡ z → r ≡ taskLocal K t z b u → r ≡ taskLocal K t k b u
+task-local-is K t k z b u r e q = q ∙ ap (λ w. taskLocal K t w b u) (sym e)
+
+-- and of `ea` by its target
+module _ (K : Table) (a : ℕ) (p q : Place) (e : p ≡ q) where
+  pub ea-is : (u : Task) (v : Act) (r : Told) → r ≡ eaLocal K a q u v → r ≡ eaLocal K a p u v
+  ea-is u v r f = rw e f
+
+  pub ea-named : (n : ℕ) → n ≡ naming K a (Ea q) → n ≡ naming K a (Ea p)
+  ea-named n f = rw e f
+
+-- every step but `lm` is of its activity's task
+pub but-lm : (K : Table) (a : ℕ) (k : ActStep) (t : ℕ) → OneOf (1 ∷ 2 ∷ 3 ∷ 4 ∷ []) (tagOf the-type k) → t ≡ K .task a → t ≡ taskIn K a k
+but-lm K a (Lm u) t h e = absurd (miss (1 ∷ 2 ∷ 3 ∷ 4 ∷ []) 0 tt h)
+but-lm K a Ia t h e = e
+but-lm K a (Ea p) t h e = e
+but-lm K a Cx t h e = e
+but-lm K a (Fa p) t h e = e
 
 -- tests of numbers against counts
 pub below-by : (i n m : ℕ) → n ≡ m → ltb i n ≡ ltb i m
@@ -98,4 +102,8 @@ module _ (K : Table) (a n : ℕ) (p : Place) (q : n ≡ K .nacts) where
   pub to-codel : (r : Bool) (c m : ℕ) → p ≡ Codel c → m ≡ K .ncodels → r ≡ (ltb a n and ltb c m) → r ≡ (ltb a (K .nacts) and known K p)
   to-codel r c m f g i = rw (f, ← q, ← g) i
 
-pub ruleset names = (named-is, below-by, both-by, to-ether, to-codel)
+-- 12 by such a test
+pub there-by : (b d : Bool) (r : ℕ) → r ≡ need b 12 0 → b ≡ d → r ≡ need d 12 0
+there-by b d r e f = e ∙ rw f
+
+pub ruleset names = (named-is, ea-named, below-by, both-by, to-ether, to-codel, there-by)

@@ -1,22 +1,24 @@
 -- The rules' answer to a step is the one told by its records, and the next state has those records anew.
 use mathlib.Core.Bool.{Bool, true, false}
 use mathlib.Core.Path.{_≡_, refl, _∙_}
-use Prim.Native.Nat.{ℕ}
+use Prim.Native.Nat.{ℕ, zero, suc, _≤_, _<_}
 use native.Mathlib.Omega.{arith}
 use lib.Dec.{T, ltb, ltb→lt}
+use borrow.Author.Tests.{lt-ltb, le-ltb}
 use Rattle.model.specs.Tests.{need}
 use Rattle.model.specs.Tables.{Table}
 use Rattle.model.specs.States.{taskAt, actAt}
-use Rattle.model.specs.Rules.{putTask, putBoth, iaTo, refusal, next}
+use Rattle.model.specs.Rules.{putTask, putBoth, iaTo, taskRefusal, actRefusal, taskNext, actNext}
 use Rattle.model.specs.declared.State.{State}
 use Rattle.model.specs.declared.Task.{Task}
 use Rattle.model.specs.declared.Act.{Act}
 use Rattle.model.specs.declared.Place.{Place}
 use Rattle.model.specs.declared.Place.the-variants.{Ether, Codel}
-use Rattle.model.specs.declared.Step.{Step}
-use Rattle.model.specs.declared.Step.the-variants.{Wait, St, Sm, Lm, Ia, Ea, Cx, Fa, Fm}
-use Rattle.model.proofs.Tests.{T-true}
-use Rattle.rules.specs.Local.{toldTask, told, unless, taskLocal, interrupted, local, named, taskIn, actIn, ofTask, ofAct, clearFor, emptyFor}
+use Rattle.model.specs.declared.TaskStep.{TaskStep}
+use Rattle.model.specs.declared.TaskStep.the-variants.{St, Fm}
+use Rattle.model.specs.declared.ActStep.{ActStep}
+use Rattle.model.specs.declared.ActStep.the-variants.{Lm, Ia, Ea, Cx, Fa}
+use Rattle.rules.specs.Local.{toldTask, told, unless, taskLocal, interrupted, local, naming, taskIn, clearFor, emptyFor}
 use Rattle.rules.specs.declared.TaskTold.{TaskTold}
 use Rattle.rules.specs.declared.Told.{Told}
 
@@ -33,53 +35,57 @@ interrupted-number : (K : Table) (p : Place) (y : Task) (z : Act) → interrupte
 interrupted-number K Ether y z = refl
 interrupted-number K (Codel c) y z = refl
 
+-- the first refusal of two
+abbrev orElse : ℕ → ℕ → ℕ
+orElse zero n = n
+orElse (suc m) n = suc m
+
+need-else : (b : Bool) (n : ℕ) → orElse (need b 12 0) n ≡ need b 12 n
+need-else true n = refl
+need-else false n = refl
+
 module _ (K : Table) (s : State) where
-  -- a step told by the record of the task that it touches
-  abbrev pub answeredTask : Step → TaskTold
-  answeredTask x = taskLocal K x (emptyFor K s x) (taskAt s (taskIn K x))
+  -- a step told by the record of its task
+  abbrev pub answeredTask : ℕ → TaskStep → TaskTold
+  answeredTask t k = taskLocal K t k (emptyFor K s t k) (taskAt s t)
 
-  -- a step told by the records of the activity that it touches and its task
-  abbrev pub answered : Step → Told
-  answered x = local K x (clearFor K s x) (taskAt s (taskIn K x)) (actAt s (actIn x))
+  -- a step told by the records of its activity and of the task that it touches
+  abbrev pub answered : ℕ → ActStep → Told
+  answered a k = local K a k (clearFor K s a k) (taskAt s (taskIn K a k)) (actAt s a)
 
-  task-refused : (x : Step) → T (ofTask x) → refusal K s x ≡ need (named K x) 12 (answeredTask x .number)
-  unfolding refusal taskLocal named
-  task-refused (Wait d) l = absurd l
-  task-refused (St t) l = simp task-number
-  task-refused (Sm t n r) l = absurd l
-  task-refused (Lm t a) l = absurd l
-  task-refused (Ia a) l = absurd l
-  task-refused (Ea a c) l = absurd l
-  task-refused (Cx a) l = absurd l
-  task-refused (Fa a p) l = absurd l
-  task-refused (Fm t) l = simp task-number
+  task-refused : (t : ℕ) (k : TaskStep) → taskRefusal K s t k ≡ need (ltb t (K .ntasks)) 12 (answeredTask t k .number)
+  unfolding taskLocal
+  task-refused t St = simp task-number
+  task-refused t Fm = simp task-number
 
-  act-refused : (x : Step) → T (ofAct x) → refusal K s x ≡ need (named K x) 12 (answered x .number)
-  unfolding refusal local named
-  act-refused (Wait d) l = absurd l
-  act-refused (St t) l = absurd l
-  act-refused (Sm t n r) l = absurd l
-  act-refused (Lm t a) l = simp number
-  act-refused (Ia a) l = simp (number, interrupted-number)
-  act-refused (Ea a c) l = simp number
-  act-refused (Cx a) l = simp number
-  act-refused (Fa a p) l = simp number
-  act-refused (Fm t) l = absurd l
+  act-refused : (a : ℕ) (k : ActStep) → actRefusal K s a k ≡ orElse (naming K a k) (answered a k .number)
+  unfolding local naming
+  act-refused a (Lm t) = simp (need-else, number)
+  act-refused a Ia = simp (need-else, number, interrupted-number)
+  act-refused a (Ea Ether) = refl
+  act-refused a (Ea (Codel c)) = simp (need-else, number)
+  act-refused a Cx = simp (need-else, number)
+  act-refused a (Fa p) = simp (need-else, number)
 
-  -- where the rows that a step names exist, its refusal is the one told; where one does not, it is 12
-  module _ (x : Step) (l : T (ofTask x)) where
-    pub task-refusal : T (named K x) → refusal K s x ≡ answeredTask x .number
-    task-refusal h = task-refused x l ∙ rw (T-true (named K x) h)
+  -- where a task's step names a row, its refusal is the one told; else it is 12
+  module _ (t : ℕ) (k : TaskStep) where
+    pub task-refusal : t < K .ntasks → taskRefusal K s t k ≡ answeredTask t k .number
+    task-refusal h = task-refused t k ∙ rw (lt-ltb t (K .ntasks) h)
 
-    pub task-unnamed : named K x ≡ false → refusal K s x ≡ 12
-    task-unnamed h = task-refused x l ∙ rw h
+    pub task-unnamed : K .ntasks ≤ t → taskRefusal K s t k ≡ 12
+    task-unnamed h = task-refused t k ∙ rw (le-ltb t (K .ntasks) h)
 
-  module _ (x : Step) (l : T (ofAct x)) where
-    pub local-refusal : T (named K x) → refusal K s x ≡ answered x .number
-    local-refusal h = act-refused x l ∙ rw (T-true (named K x) h)
+  -- where an activity's step is one and names rows, its refusal is the one told; else it is the number of that
+  module _ (a : ℕ) (k : ActStep) where
+    pub local-refusal : naming K a k ≡ 0 → actRefusal K s a k ≡ answered a k .number
+    local-refusal h = act-refused a k ∙ rw h
 
-    pub local-unnamed : named K x ≡ false → refusal K s x ≡ 12
-    local-unnamed h = act-refused x l ∙ rw h
+    pub local-unnamed : (naming K a k ≡ 0 → ⊥) → actRefusal K s a k ≡ naming K a k
+    local-unnamed h = act-refused a k ∙ go (naming K a k) h
+      where
+        go : (n : ℕ) → (n ≡ 0 → ⊥) → orElse n (answered a k .number) ≡ n
+        go zero h = absurd (h refl)
+        go (suc n) h = refl
 
 -- an answer that is accepted gives the state w, once its record is put back
 record StoredTask (s : State) (t : ℕ) (w : State) (r : TaskTold) : Type 0 where
@@ -110,37 +116,27 @@ module _ (K : Table) (s : State) where
 
   ruleset puts = (past-task, past, task-put, both-put, ia-put, tt)
 
-  put-task : (x : Step) → T (ofTask x) → StoredTask s (taskIn K x) (next K s x) (answeredTask K s x)
-  unfolding next taskLocal
-  put-task (Wait d) l = absurd l
-  put-task (St t) l = search puts
-  put-task (Sm t n r) l = absurd l
-  put-task (Lm t a) l = absurd l
-  put-task (Ia a) l = absurd l
-  put-task (Ea a c) l = absurd l
-  put-task (Cx a) l = absurd l
-  put-task (Fa a p) l = absurd l
-  put-task (Fm t) l = search puts
+  put-task : (t : ℕ) (k : TaskStep) → StoredTask s t (taskNext s t k) (answeredTask K s t k)
+  unfolding taskLocal
+  put-task t St = search puts
+  put-task t Fm = search puts
 
-  put : (x : Step) → T (ofAct x) → Stored s (taskIn K x) (actIn x) (next K s x) (answered K s x)
-  unfolding next local
-  put (Wait d) l = absurd l
-  put (St t) l = absurd l
-  put (Sm t n r) l = absurd l
-  put (Lm t a) l = search puts
-  put (Ia a) l = search puts
-  put (Ea a c) l = search puts
-  put (Cx a) l = search puts
-  put (Fa a p) l = search puts
-  put (Fm t) l = absurd l
+  put : (a : ℕ) (k : ActStep) → Stored s (taskIn K a k) a (actNext K s a k) (answered K s a k)
+  unfolding local
+  put a (Lm t) = search puts
+  put a Ia = search puts
+  put a (Ea Ether) = record { stored = λ e. absurd (omega arith) }
+  put a (Ea (Codel c)) = search puts
+  put a Cx = search puts
+  put a (Fa p) = search puts
 
   -- where a step is accepted, the next state has its task's record as it is told
-  pub task-next : (x : Step) → T (ofTask x) → answeredTask K s x .number ≡ 0 → next K s x ≡ putTask s (taskIn K x) (answeredTask K s x .task)
-  task-next x l = put-task x l .stored
+  pub task-next : (t : ℕ) (k : TaskStep) → answeredTask K s t k .number ≡ 0 → taskNext s t k ≡ putTask s t (answeredTask K s t k .task)
+  task-next t k = put-task t k .stored
 
   -- or its two records
-  pub local-next : (x : Step) → T (ofAct x) → answered K s x .number ≡ 0 → next K s x ≡ putBoth s (taskIn K x) (answered K s x .task) (actIn x) (answered K s x .act)
-  local-next x l = put x l .stored
+  pub local-next : (a : ℕ) (k : ActStep) → answered K s a k .number ≡ 0 → actNext K s a k ≡ putBoth s (taskIn K a k) (answered K s a k .task) a (answered K s a k .act)
+  local-next a k = put a k .stored
 
 -- an answer that is refused has the records as they came
 record KeptTask (y : Task) (r : TaskTold) : Type 0 where
@@ -166,34 +162,24 @@ accepted-kept y z r e = record { kept = λ n. absurd (n e) }
 ruleset kept-all = (unless-kept-task, unless-kept, accepted-kept-task, accepted-kept, interrupted-number)
 
 module _ (K : Table) (b : Bool) (y : Task) where
-  keeps-task : (x : Step) → KeptTask y (taskLocal K x b y)
+  keeps-task : (t : ℕ) (k : TaskStep) → KeptTask y (taskLocal K t k b y)
   unfolding taskLocal
-  keeps-task (Wait d) = record { kept = λ _. refl }
-  keeps-task (St t) = search kept-all
-  keeps-task (Sm t n r) = record { kept = λ _. refl }
-  keeps-task (Lm t a) = record { kept = λ _. refl }
-  keeps-task (Ia a) = record { kept = λ _. refl }
-  keeps-task (Ea a c) = record { kept = λ _. refl }
-  keeps-task (Cx a) = record { kept = λ _. refl }
-  keeps-task (Fa a p) = record { kept = λ _. refl }
-  keeps-task (Fm t) = search kept-all
+  keeps-task t St = search kept-all
+  keeps-task t Fm = search kept-all
 
   -- a refused step gives the records back as they came
-  pub task-kept : (x : Step) → (taskLocal K x b y .number ≡ 0 → ⊥) → taskLocal K x b y .task ≡ y
-  task-kept x = keeps-task x .kept
+  pub task-kept : (t : ℕ) (k : TaskStep) → (taskLocal K t k b y .number ≡ 0 → ⊥) → taskLocal K t k b y .task ≡ y
+  task-kept t k = keeps-task t k .kept
 
   module _ (z : Act) where
-    keeps : (x : Step) → Kept y z (local K x b y z)
+    keeps : (a : ℕ) (k : ActStep) → Kept y z (local K a k b y z)
     unfolding local
-    keeps (Wait d) = record { kept = λ _. (refl, refl) }
-    keeps (St t) = record { kept = λ _. (refl, refl) }
-    keeps (Sm t n r) = record { kept = λ _. (refl, refl) }
-    keeps (Lm t a) = search kept-all
-    keeps (Ia a) = search kept-all
-    keeps (Ea a c) = search kept-all
-    keeps (Cx a) = search kept-all
-    keeps (Fa a p) = search kept-all
-    keeps (Fm t) = record { kept = λ _. (refl, refl) }
+    keeps a (Lm t) = search kept-all
+    keeps a Ia = search kept-all
+    keeps a (Ea Ether) = record { kept = λ _. (refl, refl) }
+    keeps a (Ea (Codel c)) = search kept-all
+    keeps a Cx = search kept-all
+    keeps a (Fa p) = search kept-all
 
-    pub local-kept : (x : Step) → (local K x b y z .number ≡ 0 → ⊥) → (local K x b y z .task ≡ y) × (local K x b y z .act ≡ z)
-    local-kept x = keeps x .kept
+    pub local-kept : (a : ℕ) (k : ActStep) → (local K a k b y z .number ≡ 0 → ⊥) → (local K a k b y z .task ≡ y) × (local K a k b y z .act ≡ z)
+    local-kept a k = keeps a k .kept

@@ -2,18 +2,20 @@
 ghost use mathlib.Core.Path.{_≡_};
 ghost use Prim.Native.Nat.{_<_, _≤_};
 ghost use lib.Dec.{T, ltb};
-ghost use Rattle.model.specs.Tests.{_and_};
+ghost use Rattle.model.specs.Tests.{_and_, need};
 ghost use Rattle.model.specs.Limits.{ceiling};
 ghost use Rattle.model.specs.Tables.{known};
 ghost use Rattle.model.specs.States.{stands};
 ghost use Rattle.model.specs.Rules.{entered, again, eaAllowed, faAllowed};
+ghost use Rattle.model.specs.declared.Place.the-variants.{Codel};
 ghost use Rattle.prepared.specs.Prepared.{tableIn, Prepared};
-ghost use Rattle.rules.specs.Local.{toldTask, told, stLocal, fmLocal, taskLocal, lmLocal, iaLocal, eaLocal, cxLocal, faLocal, local, named, taskIn, actIn, ofTask};
+ghost use Rattle.rules.specs.Local.{toldTask, told, stLocal, fmLocal, taskLocal, lmLocal, iaLocal, eaLocal, cxLocal, faLocal, local, naming, taskIn};
 use model::Act;
+use model::ActStep;
 use model::Holder;
 use model::Place;
-use model::Step;
 use model::Task;
+use model::TaskStep;
 
 // What a step of a task comes to: its refusal, 0 for none, and the task's record as it then is.
 pub struct TaskTold {
@@ -106,20 +108,20 @@ fn do_fm(empty: bool, x: Task) -> TaskTold
 }
 
 // `st` and `fm` on their task's record; empty is whether N and R are, for `fm`.
-pub fn task_step(rows: &[u32], index: &[u32], st: Step, empty: bool, x: Task) -> TaskTold
-    requires { ⌜ Prepared (now rows) (now index) × T (named (tableIn (now rows) (now index)) st) × (x .missed ≤ ceiling) ⌝ }
-    ensures { λ r. ⌜ r ≡ taskLocal (tableIn (now (rows .entry)) (now (index .entry))) st empty x ⌝ }
+pub fn task_step(
+    rows: &[u32],
+    index: &[u32],
+    t: usize,
+    k: TaskStep,
+    empty: bool,
+    x: Task,
+) -> TaskTold
+    requires { ⌜ Prepared (now rows) (now index) × (t < tableIn (now rows) (now index) .ntasks) × (x .missed ≤ ceiling) ⌝ }
+    ensures { λ r. ⌜ r ≡ taskLocal (tableIn (now (rows .entry)) (now (index .entry))) t k empty x ⌝ }
 {
-    match st {
-        Step::Wait(_) => task_answer(13, x),
-        Step::St(t) => do_st(rows, index, t, x),
-        Step::Sm(_, _, _) => task_answer(13, x),
-        Step::Lm(_, _) => task_answer(13, x),
-        Step::Ia(_) => task_answer(13, x),
-        Step::Ea(_, _) => task_answer(13, x),
-        Step::Cx(_) => task_answer(13, x),
-        Step::Fa(_, _) => task_answer(13, x),
-        Step::Fm(_) => do_fm(empty, x),
+    match k {
+        TaskStep::St => do_st(rows, index, t, x),
+        TaskStep::Fm => do_fm(empty, x),
     }
 }
 
@@ -189,7 +191,7 @@ fn may_enter(rows: &[u32], index: &[u32], a: usize, c: usize, y: Act) -> bool
 
 fn do_ea(rows: &[u32], index: &[u32], a: usize, c: usize, x: Task, y: Act) -> Told
     requires { ⌜ Prepared (now rows) (now index) × (a < tableIn (now rows) (now index) .nacts) × (c < tableIn (now rows) (now index) .ncodels) × T (known (tableIn (now rows) (now index)) (y .place)) ⌝ }
-    ensures { λ r. ⌜ r ≡ eaLocal (tableIn (now (rows .entry)) (now (index .entry))) a c x y ⌝ }
+    ensures { λ r. ⌜ r ≡ eaLocal (tableIn (now (rows .entry)) (now (index .entry))) a (Codel c) x y ⌝ }
 {
     let h = x.holder;
     if !records::may_run(h, a, y.halt) {
@@ -234,10 +236,10 @@ fn do_cx(rows: &[u32], index: &[u32], a: usize, clear: bool, x: Task, y: Act) ->
     if !is_standing(rows, index, y) {
         return answer(13, x, y);
     }
+    let v = records::started(y);
     if !clear {
         return answer(15, x, y);
     }
-    let v = records::started(y);
     answer(0, x, v)
 }
 
@@ -284,20 +286,27 @@ fn do_fa(rows: &[u32], index: &[u32], a: usize, p: Place, x: Task, y: Act) -> To
 }
 
 // `lm`, `ia`, `ea`, `cx` and `fa` on the activity's record and its task's; clear is whether no conflicting codel executes, for `cx`.
-pub fn local_step(rows: &[u32], index: &[u32], st: Step, clear: bool, x: Task, y: Act) -> Told
-    requires { ⌜ Prepared (now rows) (now index) × T (named (tableIn (now rows) (now index)) st) × T (known (tableIn (now rows) (now index)) (y .place)) ⌝ }
-    ensures { λ r. ⌜ r ≡ local (tableIn (now (rows .entry)) (now (index .entry))) st clear x y ⌝ }
+pub fn local_step(
+    rows: &[u32],
+    index: &[u32],
+    a: usize,
+    k: ActStep,
+    clear: bool,
+    x: Task,
+    y: Act,
+) -> Told
+    requires { ⌜ Prepared (now rows) (now index) × (naming (tableIn (now rows) (now index)) a k ≡ 0) × T (known (tableIn (now rows) (now index)) (y .place)) ⌝ }
+    ensures { λ r. ⌜ r ≡ local (tableIn (now (rows .entry)) (now (index .entry))) a k clear x y ⌝ }
 {
-    match st {
-        Step::Wait(_) => answer(13, x, y),
-        Step::St(_) => answer(13, x, y),
-        Step::Sm(_, _, _) => answer(13, x, y),
-        Step::Lm(t, a) => do_lm(rows, index, t, a, x, y),
-        Step::Ia(a) => do_ia(rows, index, a, x, y),
-        Step::Ea(a, c) => do_ea(rows, index, a, c, x, y),
-        Step::Cx(a) => do_cx(rows, index, a, clear, x, y),
-        Step::Fa(a, p) => do_fa(rows, index, a, p, x, y),
-        Step::Fm(_) => answer(13, x, y),
+    match k {
+        ActStep::Lm(t) => do_lm(rows, index, t, a, x, y),
+        ActStep::Ia => do_ia(rows, index, a, x, y),
+        ActStep::Ea(p) => match p {
+            Place::Ether => answer(11, x, y),
+            Place::Codel(c) => do_ea(rows, index, a, c, x, y),
+        },
+        ActStep::Cx => do_cx(rows, index, a, clear, x, y),
+        ActStep::Fa(p) => do_fa(rows, index, a, p, x, y),
     }
 }
 
@@ -310,78 +319,44 @@ fn both_below(a: usize, m: usize, c: usize, n: usize) -> bool
     false
 }
 
-// Do the rows that a step names exist?
-pub fn rows_exist(rows: &[u32], index: &[u32], st: Step) -> bool
+// 12 unless the rows exist.
+fn unless_there(there: bool) -> u64
+    ensures { λ r. ⌜ r ≡ need there 12 0 ⌝ }
+{
+    if there {
+        return 0;
+    }
+    12
+}
+
+// What is tested first of an activity's step: 11 where it is none, 12 where a row that it names does not exist, else 0.
+pub fn check_names(rows: &[u32], index: &[u32], a: usize, k: ActStep) -> u64
     requires { ⌜ Prepared (now rows) (now index) ⌝ }
-    ensures { λ r. ⌜ r ≡ named (tableIn (now (rows .entry)) (now (index .entry))) st ⌝ }
+    ensures { λ r. ⌜ r ≡ naming (tableIn (now (rows .entry)) (now (index .entry))) a k ⌝ }
 {
-    let nt = prepared::tasks(rows, index);
     let na = prepared::acts(rows, index);
-    let nc = prepared::codels(rows, index);
-    match st {
-        Step::Wait(_) => true,
-        Step::St(t) => t < nt,
-        Step::Sm(t, _, _) => t < nt,
-        Step::Lm(t, a) => both_below(t, nt, a, na),
-        Step::Ia(a) => a < na,
-        Step::Ea(a, c) => both_below(a, na, c, nc),
-        Step::Cx(a) => a < na,
-        Step::Fa(a, p) => match p {
-            Place::Ether => a < na,
-            Place::Codel(c) => both_below(a, na, c, nc),
+    match k {
+        ActStep::Lm(t) => unless_there(both_below(t, prepared::tasks(rows, index), a, na)),
+        ActStep::Ia => unless_there(a < na),
+        ActStep::Ea(p) => match p {
+            Place::Ether => 11,
+            Place::Codel(c) => unless_there(both_below(a, na, c, prepared::codels(rows, index))),
         },
-        Step::Fm(t) => t < nt,
+        ActStep::Cx => unless_there(a < na),
+        ActStep::Fa(p) => match p {
+            Place::Ether => unless_there(a < na),
+            Place::Codel(c) => unless_there(both_below(a, na, c, prepared::codels(rows, index))),
+        },
     }
 }
 
-// The task whose record a step touches.
-pub fn task_in(rows: &[u32], index: &[u32], st: Step) -> usize
-    requires { ⌜ Prepared (now rows) (now index) × T (named (tableIn (now rows) (now index)) st) ⌝ }
-    ensures { λ r. ⌜ r ≡ taskIn (tableIn (now (rows .entry)) (now (index .entry))) st ⌝ }
+// The task whose record an activity's step touches: `lm` names it, else it is the activity's.
+pub fn task_in(rows: &[u32], index: &[u32], a: usize, k: ActStep) -> usize
+    requires { ⌜ Prepared (now rows) (now index) × (naming (tableIn (now rows) (now index)) a k ≡ 0) ⌝ }
+    ensures { λ r. ⌜ r ≡ taskIn (tableIn (now (rows .entry)) (now (index .entry))) a k ⌝ }
 {
-    match st {
-        Step::Wait(_) => 0,
-        Step::St(t) => t,
-        Step::Sm(t, _, _) => t,
-        Step::Lm(t, _) => t,
-        Step::Ia(a) => prepared::task_of(rows, index, a),
-        Step::Ea(a, _) => prepared::task_of(rows, index, a),
-        Step::Cx(a) => prepared::task_of(rows, index, a),
-        Step::Fa(a, _) => prepared::task_of(rows, index, a),
-        Step::Fm(t) => t,
-    }
-}
-
-// The activity whose record a step touches; 0 where it names none.
-pub fn act_in(st: Step) -> usize
-    ensures { λ r. ⌜ r ≡ actIn st ⌝ }
-{
-    match st {
-        Step::Wait(_) => 0,
-        Step::St(_) => 0,
-        Step::Sm(_, _, _) => 0,
-        Step::Lm(_, a) => a,
-        Step::Ia(a) => a,
-        Step::Ea(a, _) => a,
-        Step::Cx(a) => a,
-        Step::Fa(a, _) => a,
-        Step::Fm(_) => 0,
-    }
-}
-
-// Does a step touch one task's record alone?
-pub fn is_of_task(st: Step) -> bool
-    ensures { λ r. ⌜ r ≡ ofTask st ⌝ }
-{
-    match st {
-        Step::Wait(_) => false,
-        Step::St(_) => true,
-        Step::Sm(_, _, _) => false,
-        Step::Lm(_, _) => false,
-        Step::Ia(_) => false,
-        Step::Ea(_, _) => false,
-        Step::Cx(_) => false,
-        Step::Fa(_, _) => false,
-        Step::Fm(_) => true,
-    }
+    let ActStep::Lm(t) = k else {
+        return prepared::task_of(rows, index, a);
+    };
+    t
 }

@@ -8,7 +8,7 @@ use Rattle.model.specs.Tests.{_and_, _or_, _implies_, each}
 use Rattle.model.specs.Limits.{mostTasks, mostActs}
 use Rattle.model.specs.Tables.{Table, isEther, known, safe}
 use Rattle.model.specs.States.{taskAt, actAt, heldBy, runs}
-use Rattle.model.specs.Sound.{atOwn, listedAtEther, safeAt, executesWhenSafe, clockOk, fine, fineAct, holderOk, apart, isFreshTask, isFreshAct, freshPast}
+use Rattle.model.specs.Sound.{atOwn, listedAtEther, atSafe, executesWhenSafe, clockOk, fine, fineAct, holderOk, apart, isFreshTask, isFreshAct, freshPast}
 use Rattle.model.specs.declared.Task.{Task}
 use Rattle.model.specs.declared.Act.{Act}
 use Rattle.model.specs.declared.State.{State}
@@ -46,8 +46,8 @@ own-known K a p r e n = go p (true-T _ (yes-by r (atOwn K a p) e n))
 
 -- "a holder not in R at a thread-safe codel executes"
 module _ (K : Table) (h l : Bool) (p : Place) (e r : Bool) (q : r ≡ (h and not l)) where
-  safe-by : executesWhenSafe K h l p e ≡ (r and safeAt K p implies e)
-  safe-by = go r h (not l) (safeAt K p) q
+  safe-by : executesWhenSafe K h l p e ≡ (r and atSafe K p implies e)
+  safe-by = go r h (not l) (atSafe K p) q
     where
       go : (r a b s : Bool) → r ≡ (a and b) → (a and b and s implies e) ≡ (r and s implies e)
       go r true b s i = rw i

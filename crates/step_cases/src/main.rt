@@ -111,7 +111,7 @@ fn show_m(t: Table, s: State) {
     );
 }
 
-// States that no log reaches: at the ceiling, a signal that waits at a due timer, and two that are not sound.
+// States given by value: at the ceiling, a signal that waits at a due timer, and two that are not sound.
 fn show_given(t: Table, fresh: State) {
     let mut s = fresh;
     s.date = 1000000000000;

@@ -22,7 +22,7 @@ use Rattle.model.specs.declared.Line.{Line}
 use Rattle.model.specs.declared.Line.the-variants.{Is, Bad}
 use Rattle.log.specs.Lines.{readLine}
 use Rattle.log.proofs.Bounds.{read-line-bounds}
-use Rattle.table.specs.Checks.{checkTable}
+use Rattle.table.specs.Checks.{says, checkTable}
 use Rattle.table.specs.Tables.{tableOf}
 use Rattle.table.specs.declared.Table as rows
 use Rattle.table.specs.declared.Read.{Read}
@@ -112,7 +112,7 @@ module _ (K : Table) (s : State) (l : List ℕ) (y : Line) (e : y ≡ readLine l
     line-accepted p = goes-on (r .stop) p s (r .going .state) ∙ ran
 
 -- and on a table and a state that may be refused
-module _ (t : rows.Table) (s : State) (l : List ℕ) (q : Read) (e : q ≡ checkTable t) where
+module _ (t : rows.Table) (s : State) (l : List ℕ) (q : Read) (e : says q ≡ checkTable t) where
   pub table-refused : (n k : ℕ) → q .answer ≡ answer.Refused n k → record { number = 19; state = s } ≡ stepped t s l
   unfolding stepped
   table-refused n k h = rw (← e, h)

@@ -1,7 +1,6 @@
 -- One step on a log line, with everything given by value: 19, then 11, then 12 to 18. "A refusal returns the number and the state as it
 -- came."
 use Prim.Native.Nat.{ℕ}
-use mathlib.Core.Bool.{Bool, true, false}
 use mathlib.Core.List.{List}
 use Rattle.text.specs.Parts.{pick}
 use Rattle.model.specs.Tests.{accepted}
@@ -14,14 +13,9 @@ use Rattle.model.specs.declared.Line.the-variants as line
 use Rattle.log.specs.Lines.{readLine}
 use Rattle.table.specs.Checks.{checkTable}
 use Rattle.table.specs.Tables.{tableOf}
+use Rattle.table.specs.Texts.{isEmpty}
 use Rattle.table.specs.declared.Table as rows
-use Rattle.table.specs.declared.Answer.{Answer}
-use Rattle.table.specs.declared.Answer.the-variants as answer
 use Rattle.stepping.specs.declared.Stepped.{Stepped}
-
-abbrev pub isFine : Answer → Bool
-isFine answer.Fine = true
-isFine (answer.Refused n l) = false
 
 abbrev pub onStep : Table → State → Line → State
 onStep K s line.Bad = s
@@ -33,7 +27,7 @@ lineStepped K s l = record { number = lineRefusal K s l; state = onStep K s l }
 -- 19: "table that the reader would refuse, or state not sound"
 unfoldable pub stepped : rows.Table → State → List ℕ → Stepped
 stepped t s l =
-    pick (isFine (checkTable t .answer))
+    pick (isEmpty (checkTable t .numbers))
     (pick (sound (tableOf t) s)
     (lineStepped (tableOf t) s (readLine l))
     (record { number = 19; state = s }))

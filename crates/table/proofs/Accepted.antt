@@ -12,7 +12,7 @@ use Rattle.model.specs.Tests.{_implies_}
 use Rattle.model.specs.Limits.{mostTasks, mostActs, mostCodels, mostTicks, inRange}
 use Rattle.model.specs.Tables.{known, targetOf}
 use Rattle.model.specs.Tables as model
-use Rattle.row.specs.Kinds.{fieldsOf, mostOf, formOf}
+use Rattle.row.specs.Kinds.{mostOf, formOf}
 use Rattle.row.specs.declared.Row.{Row}
 use Rattle.table.specs.Tables.{slots, Counted, tableOf}
 use Rattle.table.specs.Checks.{inPlace, kindFault, rowFault}
@@ -63,14 +63,14 @@ module _ (t : Table) (counted : Counted (t .counts)) where
   codel v h = let l = ltb-true v (K .ncodels) h in omega (arith, counted .most 2 (omega arith))
 
   target : (v : ℕ) → known K (targetOf v) ≡ true → within 3 1 v ≡ true
-  unfolding within limitOf formOf fieldsOf
+  unfolding within limitOf formOf
   target v h =
       cases (eqb v etherValue)
       (λ e. rw (eqb-true v etherValue e))
       (λ e. let l : ltb v (K .ncodels) ≡ true = rw e at h in below 3 1 v (codel v l))
 
   shows : (r : Row) → r .kind < 5 → Shows r
-  unfolding kindFault tableOf mostOf capOf limitOf formOf fieldsOf
+  unfolding kindFault tableOf mostOf capOf limitOf formOf
   shows =
       by-kind Shows
       (λ a b c w f.

@@ -4,16 +4,17 @@ use mathlib.Core.Path.{_≡_, refl, sym, ap, _∙_}
 use mathlib.Core.List.{List, [], _∷_, _++_, append-nil, append-assoc}
 use native.Mathlib.Omega.{arith}
 use lib.ListN.{getD}
+use lib.Dec.{ltb}
+use borrow.Author.Tests.{lt-ltb}
+use Rattle.row.specs.Kinds.{mostOf}
 use Rattle.row.specs.declared.Row.{Row}
 use Rattle.model.specs.Rows.{lastFault}
 use Rattle.table.specs.Tables.{emptyTable, addRow, tableOf}
-use Rattle.table.specs.Checks.{rowFault, refused, onFault, checkRows, rowsFrom, kindsFrom, rowsOf, checkTable}
+use Rattle.table.specs.Checks.{givenFault, Said, accepts, refused, onFault, checkRows, rowsFrom, kindsFrom, rowsOf, checkTable}
 use Rattle.table.specs.declared.Table.{Table}
-use Rattle.table.specs.declared.Answer.{Answer}
-use Rattle.table.specs.declared.Answer.the-variants.{Fine, Refused}
-use Rattle.table.specs.declared.Read.{Read}
+use Rattle.table.proofs.Tests.{needed}
 use Rattle.table.proofs.Fields.{Worded, row-worded}
-use Rattle.table.proofs.Accepted.{Sized, Follows}
+use Rattle.table.proofs.Accepted.{Sized, Follows, accepted}
 use Rattle.table.proofs.Stored.{empty-sized, added-sized}
 use Rattle.table.proofs.RowsOf.{rows-added, rows-empty}
 
@@ -37,22 +38,18 @@ built-rows (more {t = t} {r = r} {rs = rs} f b) =
 pub built-all : {u : Table} {rs : List Row} → Built emptyTable rs u → rowsOf u ≡ rs
 built-all {rs} b = built-rows b ∙ ap (λ (x : List Row). x ++ rs) rows-empty
 
--- the answer that accepts a table
-abbrev pub accepts : Table → Read
-accepts t = record { answer = Fine; table = t }
-
--- an answer that is fine is one
-pub fine-accepts : (c : Read) → c .answer ≡ Fine → c ≡ accepts (c .table)
-fine-accepts c e = ap (λ (a : Answer). record { answer = a; table = c .table }) e
+-- where nothing is refused the table is accepted
+pub fine-accepts : (c : Said) → c .numbers ≡ [] → c ≡ accepts (c .table)
+fine-accepts c e = ap (λ (l : List ℕ). record { numbers = l; table = c .table }) e
 
 -- a refusal is none
 pub refused-not : {A : Type 0} (n l : ℕ) (u : Table) → refused n l ≡ accepts u → A
 refused-not n l u e =
-    let a : Refused n l ≡ Fine = ap (λ (x : Read). x .answer) e in
+    let a : _≡_ {A = List ℕ} (n ∷ l ∷ []) [] = ap (λ (x : Said). x .numbers) e in
     let z : _≡_ {A = ℕ} 0 1 = cc in absurd (omega arith)
 
 -- so where a table is accepted in the end, there was no fault
-pub no-fault : (n l : ℕ) (go : Read) (u : Table) → onFault n l go ≡ accepts u → (n ≡ 0) × (go ≡ accepts u)
+pub no-fault : (n l : ℕ) (go : Said) (u : Table) → onFault n l go ≡ accepts u → (n ≡ 0) × (go ≡ accepts u)
 no-fault zero l go u e = (refl, e)
 no-fault (suc n) l go u e = refused-not (suc n) l u e
 
@@ -80,14 +77,14 @@ pub record Whole (t : Table) (rs : List Row) (u : Table) : Type 0 where
 
 -- rows that are accepted make such a table
 check-whole : (rs : List Row) (t : Table) (l : ℕ) (u : Table) → Sized t → AllWorded rs → checkRows t l rs ≡ accepts u → Whole t rs u
-unfolding checkRows
+unfolding checkRows givenFault
 check-whole [] t l u s w e =
     let a = no-fault (lastFault (tableOf t)) l (accepts t) u e in
-    let q : t ≡ u = ap (λ (x : Read). x .table) (a .1) in
+    let q : t ≡ u = ap (λ (x : Said). x .table) (a .1) in
     rw (← q) record { built = done; last = a .0 }
 check-whole (r ∷ rs) t l u s w e =
-    let a = no-fault (rowFault t r) l (checkRows (addRow t r) (l + 1) rs) u e in
-    let f : Follows t r = record { sized = s; worded = w .0; fine = a .0 } in
+    let a = no-fault (givenFault t r) l (checkRows (addRow t r) (l + 1) rs) u e in
+    let f : Follows t r = record { sized = s; worded = w .0; fine = needed (ltb (getD (t .counts) (r .kind) 0) (mostOf (r .kind))) 2 (a .0) .1 } in
     let b = check-whole rs (addRow t r) (l + 1) u (added-sized f) (w .1) (a .1) in
     record { built = more f (b .built); last = b .last }
 
@@ -98,6 +95,6 @@ table-whole t u e = check-whole (rowsOf t) emptyTable 1 u empty-sized (kinds-wor
 
 -- and such a table is accepted
 pub whole-check : {t u : Table} {rs : List Row} (l : ℕ) → Built t rs u → lastFault (tableOf u) ≡ 0 → checkRows t l rs ≡ accepts u
-unfolding checkRows
+unfolding checkRows givenFault
 whole-check l done e = rw e
-whole-check l (more f b) e = rw (f .fine) (whole-check (l + 1) b e)
+whole-check l (more f b) e = rw (lt-ltb _ _ (accepted f .room), f .fine) (whole-check (l + 1) b e)

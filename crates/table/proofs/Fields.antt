@@ -11,7 +11,7 @@ use Rattle.text.specs.Fields.{etherValue}
 use Rattle.text.proofs.Picks.{cases, order, picked, false-true}
 use Rattle.model.specs.Tests.{_and_, _or_, each}
 use Rattle.model.specs.Limits.{mostTasks, mostActs, mostCodels, mostTicks}
-use Rattle.row.specs.Kinds.{endKind, aNumber, aTarget, fieldsOf, mostOf, formOf}
+use Rattle.row.specs.Kinds.{endKind, aNumber, aTarget, mostOf, formOf}
 use Rattle.row.specs.Row.{formOk, rowOk}
 use Rattle.row.specs.declared.Row.{Row}
 use Rattle.table.specs.Tables.{etherSlot, narrowed, widened, shown, slotOf, fieldOf, rowOf}
@@ -86,7 +86,7 @@ within k j v = ltb v (limitOf k j) or isEtherAt (formOf k j) v
 
 -- the limits as the forms have them
 caps : (k : ℕ) → k < 5 → (j : ℕ) → j < 3 → (formOf k j < 5) × (limitOf k j ≤ capOf (formOf k j))
-unfolding capOf limitOf formOf fieldsOf each
+unfolding capOf limitOf formOf each
 caps k h j l =
     let t = each-at 3 (λ i. ltb (formOf k i) 5 and leb (limitOf k i) (capOf (formOf k i)))
     (each-at 5 (λ m. each 3 (λ i. ltb (formOf m i) 5 and leb (limitOf m i) (capOf (formOf m i)))) refl k h) j l in

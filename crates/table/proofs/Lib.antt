@@ -10,6 +10,8 @@ pub mod Lines
 pub mod Widths
 pub mod Grown
 pub mod WellFormed
+pub mod Accepting
+pub mod Canonical
 pub mod Trips
 pub mod Turns
 pub mod TableTurns

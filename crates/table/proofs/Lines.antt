@@ -10,22 +10,21 @@ use borrow.Author.Tests.{lt-ltb, eq-eqb, ne-eqb, eqb-true, eqb-false}
 use Rattle.text.specs.Parts.{pick, splitOn, joinOn}
 use Rattle.text.proofs.Parts.{split-cut}
 use Rattle.text.proofs.Picks.{cases, picked}
-use Rattle.row.specs.Kinds.{endKind, fieldsOf, formOf}
+use Rattle.row.specs.Kinds.{endKind, formOf}
 use Rattle.row.specs.Row.{readRow, rowLine, formOk, rowOk}
 use Rattle.row.specs.declared.Row.{Row}
 use Rattle.row.specs.declared.Line.{Line}
 use Rattle.row.specs.declared.Line.the-variants as line
 use Rattle.model.specs.Rows.{lastFault}
 use Rattle.table.specs.Tables.{addRow, tableOf}
-use Rattle.table.specs.Checks.{rowFault, refused, onFault, closed}
+use Rattle.table.specs.Checks.{rowFault, Said, accepts, refused, onFault, closed}
 use Rattle.table.specs.Texts.{onRow, rowBehind, faultBehind, atEndRow, readLines, endRow, textOf}
 use Rattle.table.specs.declared.Table.{Table}
-use Rattle.table.specs.declared.Read.{Read}
 use Rattle.row.proofs.Rows.{row-reads, row-read, row-free}
 use Rattle.table.proofs.Fields.{ok-fields, ok-worded, ok-limited}
 use Rattle.table.proofs.Stored.{added-sized}
 use Rattle.table.proofs.Accepted.{Sized, Follows, accepted}
-use Rattle.table.proofs.Built.{Built, done, more, accepts, refused-not, no-fault, Whole}
+use Rattle.table.proofs.Built.{Built, done, more, refused-not, no-fault, Whole}
 
 -- a text has at least one line
 record Some (ps : List (List ℕ)) : Type 0 where
@@ -41,7 +40,7 @@ split-some (b ∷ bs) =
     (λ e. rw (e, split-some bs .are) record { first = b ∷ split-some bs .first; rest = split-some bs .rest; are = refl })
 
 -- the first of several lines
-abbrev onLine : Table → ℕ → Line → List (List ℕ) → Read
+abbrev onLine : Table → ℕ → Line → List (List ℕ) → Said
 onLine t l x ps =
     onRow x
     (λ r. pick (eqb (r .kind) endKind) (atEndRow t l (r .a) ps) (onFault (rowFault t r) l (readLines (addRow t r) (l + 1) ps)))
@@ -70,11 +69,11 @@ behind-nothing p q (x ∷ xs) e = absurd (row (readRow q) e)
 
 -- the `end` row with its count
 end-ok : (n : ℕ) → n < 10000000000 → rowOk (endRow n) ≡ true
-unfolding rowOk formOk formOf fieldsOf
+unfolding rowOk formOk formOf
 end-ok n h = rw (lt-ltb _ _ h)
 
 end-is : (r : Row) (n : ℕ) → r .kind ≡ endKind → r .a ≡ n → rowOk r ≡ true → r ≡ endRow n
-unfolding formOk formOf fieldsOf
+unfolding formOk formOf
 end-is r n k a h =
     let b : r .b ≡ 0 = eqb-true _ _ (rw k at (ok-fields r h 1 (omega arith))) in
     let c : r .c ≡ 0 = eqb-true _ _ (rw k at (ok-fields r h 2 (omega arith))) in
@@ -113,7 +112,7 @@ lines-back (p ∷ q ∷ ps) t l u s h e =
         let a = picked (eqb (r .a) (l - 1)) (refused-not 6 l u) d in
         let b = no-fault (faultBehind (q ∷ ps)) (l + 1) (closed t l) u (a .1) in
         let c = no-fault (lastFault (tableOf t)) l (accepts t) u (b .1) in
-        let z : t ≡ u = ap (λ (x : Read). x .table) (c .1) in
+        let z : t ≡ u = ap (λ (x : Said). x .table) (c .1) in
         let y : r ≡ endRow (l - 1 + 0) = end-is r (l - 1 + 0) (eqb-true _ _ k) (omega (arith, eqb-true (r .a) (l - 1) (a .0))) (w .1) in
         record {
           got = [];

@@ -11,7 +11,7 @@ use lib.Dec.{ltb, leb, eqb}
 use borrow.Author.Tests.{eq-eqb, ne-eqb, lt-ltb, le-ltb, le-leb, lt-leb, eqb-true, eqb-false}
 use Rattle.text.specs.Parts.{pick}
 use Rattle.text.proofs.Picks.{cases, order}
-use Rattle.row.specs.Kinds.{fieldsOf, formOf}
+use Rattle.row.specs.Kinds.{formOf}
 use Rattle.row.specs.declared.Row.{Row}
 use Rattle.model.specs.Tests.{_and_, _or_, each, some, need}
 use Rattle.model.specs.Limits.{mostTasks, mostActs, mostCodels}
@@ -59,7 +59,7 @@ marks-set marks m i h =
 
 -- a row within its limits makes one of the marks
 mark-room : (r : Row) → r .kind < 5 → Limited r → markOf r < marksLength
-unfolding markOf limitOf formOf fieldsOf
+unfolding markOf limitOf formOf
 mark-room =
     by-kind (λ r. Limited r → markOf r < marksLength)
     (λ a b c l. omega arith)
@@ -89,7 +89,7 @@ task-mark t h =
     (λ a b c l. ne-eqb 400 t (λ e. omega arith))
 
 kind-mark : (z x : ℕ) → z < 2 → x < mostActs → (r : Row) → r .kind < 5 → Makes (kindMark z x) 2 (λ r. eqb (r .a) x and eqb (r .b) z) r
-unfolding markOf limitOf formOf fieldsOf
+unfolding markOf limitOf formOf
 kind-mark z x h m =
     by-kind (Makes i 2 (λ r. eqb (r .a) x and eqb (r .b) z))
     (λ a b c l. ne-eqb 400 i (λ e. omega arith))
@@ -110,7 +110,7 @@ kind-mark z x h m =
     i = kindMark z x
 
 codel-mark : (x : ℕ) → x < mostCodels → (r : Row) → r .kind < 5 → Makes (codelMark x) 3 (λ r. eqb (r .a) x) r
-unfolding markOf limitOf formOf fieldsOf
+unfolding markOf limitOf formOf
 codel-mark x h =
     by-kind (Makes (codelMark x) 3 (λ r. eqb (r .a) x))
     (λ a b c l. ne-eqb 400 (codelMark x) (λ e. omega arith))

@@ -9,9 +9,9 @@ use lib.Dec.{ltb, leb, eqb}
 use borrow.Author.Tests.{lt-ltb, ltb-true, leb-true, eqb-true, eqb-false}
 use Rattle.text.proofs.Picks.{cases, order}
 use Rattle.model.specs.Tests.{_implies_, each}
-use Rattle.row.specs.Kinds.{mostOf, formOf}
+use Rattle.row.specs.Kinds.{mostOf}
 use Rattle.row.specs.declared.Row.{Row}
-use Rattle.table.specs.Tables.{slots, emptyTable, baseOf, slotOf, narrowed, shown, fieldOf, rowOf, addRow}
+use Rattle.table.specs.Tables.{slots, emptyTable, baseOf, slotOf, narrowed, fieldOf, rowOf, addRow}
 use Rattle.table.specs.declared.Table.{Table}
 use Rattle.table.proofs.Tests.{each-at}
 use Rattle.table.proofs.Fields.{three, valueAt, kept}
@@ -72,30 +72,34 @@ numbers r = narrowed (r .a) ∷ narrowed (r .b) ∷ narrowed (r .c) ∷ []
 
 -- an accepted row, stored behind the rows of t
 module _ {t : Table} {r : Row} (f : Follows t r) where
-  stored-field : (j : ℕ) → j < 3 → fieldOf (addRow t r .rows) (r .kind) (placeOf t r) j ≡ valueAt r j
-  unfolding fieldOf addRow
-  stored-field j h =
+  pub stored-number : (j : ℕ) → j < 3 → getD (addRow t r .rows) (slotOf (r .kind) (placeOf t r) + j) 0 ≡ narrowed (valueAt r j)
+  unfolding addRow
+  stored-number j h =
       let c = accepted f .room in
       let b = stretch (r .kind) (f .worded .kind) in
-      rw (lt-ltb _ _ c, sets-same (numbers r) (t .rows) (slotOf (r .kind) (placeOf t r)) j h (omega (arith, f .sized .size)))
-      (three (λ i. shown (formOf (r .kind) i) (getD (numbers r) i 0) ≡ valueAt r i)
-      (keep 0 (omega arith)) (keep 1 (omega arith)) (keep 2 (omega arith)) j h)
-    where
-      keep : (i : ℕ) → i < 3 → shown (formOf (r .kind) i) (narrowed (valueAt r i)) ≡ valueAt r i
-      keep i l = kept (r .kind) (f .worded .kind) i l (valueAt r i) (accepted f .limited i l)
+      sets-same (numbers r) (t .rows) (slotOf (r .kind) (placeOf t r)) j h (omega (arith, f .sized .size))
+      ∙ three (λ i. getD (numbers r) i 0 ≡ narrowed (valueAt r i)) refl refl refl j h
+
+  pub stored-field : (j : ℕ) → j < 3 → fieldOf (addRow t r .rows) (r .kind) (placeOf t r) j ≡ valueAt r j
+  unfolding fieldOf
+  stored-field j h =
+      let a = accepted f in
+      rw (lt-ltb _ _ (a .room), stored-number j h) (kept (r .kind) (f .worded .kind) j h (valueAt r j) (a .limited j h))
 
   -- what is stored of the row is what it says
   pub stored : rowOf (addRow t r .rows) (r .kind) (placeOf t r) ≡ r
   stored = rw (stored-field 0 (omega arith), stored-field 1 (omega arith), stored-field 2 (omega arith))
 
-  other-field : (k i j : ℕ) → k < 5 → j < 3 → (k ≡ r .kind → i ≡ placeOf t r → ⊥) → fieldOf (addRow t r .rows) k i j ≡ fieldOf (t .rows) k i j
-  unfolding fieldOf addRow
-  other-field k i j h l ne =
-      cases (ltb i (mostOf k))
-      (λ e.
-      let a = apart k i (r .kind) (placeOf t r) h (f .worded .kind) (ltb-true _ _ e) (accepted f .room) ne in
-      rw (e, sets-other (numbers r) (t .rows) (slotOf (r .kind) (placeOf t r)) (slotOf k i + j) (λ m b q. a (omega arith))))
-      (λ e. rw e)
+  pub other-number : (k i j : ℕ) → k < 5 → i < mostOf k → j < 3 → (k ≡ r .kind → i ≡ placeOf t r → ⊥)
+      → getD (addRow t r .rows) (slotOf k i + j) 0 ≡ getD (t .rows) (slotOf k i + j) 0
+  unfolding addRow
+  other-number k i j h b l ne =
+      let a = apart k i (r .kind) (placeOf t r) h (f .worded .kind) b (accepted f .room) ne in
+      sets-other (numbers r) (t .rows) (slotOf (r .kind) (placeOf t r)) (slotOf k i + j) (λ m d q. a (omega arith))
+
+  pub other-field : (k i j : ℕ) → k < 5 → j < 3 → (k ≡ r .kind → i ≡ placeOf t r → ⊥) → fieldOf (addRow t r .rows) k i j ≡ fieldOf (t .rows) k i j
+  unfolding fieldOf
+  other-field k i j h l ne = cases (ltb i (mostOf k)) (λ e. rw (e, other-number k i j h (ltb-true _ _ e) l ne)) (λ e. rw e)
 
   -- no other row changes
   pub others : (k i : ℕ) → k < 5 → (k ≡ r .kind → i ≡ placeOf t r → ⊥) → rowOf (addRow t r .rows) k i ≡ rowOf (t .rows) k i

@@ -2,11 +2,11 @@
 use Prim.Native.Nat.{ℕ, zero, suc, _+_, _-_, _≤_, _<_}
 use mathlib.Core.Path.{_≡_, refl, sym, ap, _∙_}
 use mathlib.Core.List.{List, [], _∷_, _++_}
-use mathlib.Core.Bool.{false}
+use mathlib.Core.Bool.{true, false}
 use native.Mathlib.Omega.{arith}
 use lib.ListN.{length, getD, take, drop, set, replicate, drop-of-length-le, length-append}
 use lib.Seq.{sets, length-sets}
-use lib.Dec.{eqb}
+use lib.Dec.{ltb, eqb}
 use mir.Val.{Fits}
 use mir.Syntax.{w64}
 use borrow.Author.Tests.{lt-ltb, le-ltb, le-leb, lt-leb, eq-eqb, ne-eqb}
@@ -16,7 +16,7 @@ use Rattle.text.specs.Fields.{etherValue}
 use Rattle.text.proofs.Parts.{parts-cut, parts-none, parts-all, cut-length}
 use Rattle.text.proofs.Puts.{put-fits, sets-append}
 use Rattle.text.proofs.Turns.{part-starts}
-use Rattle.row.specs.Kinds.{endKind, mostOf, fieldsOf, formOf}
+use Rattle.row.specs.Kinds.{endKind, mostOf, formOf}
 use Rattle.row.specs.Row.{readRow, rowText}
 use Rattle.row.specs.declared.Row.{Row}
 use Rattle.row.specs.declared.Line.{Line}
@@ -24,14 +24,12 @@ use Rattle.row.specs.declared.Line.the-variants as line
 use Rattle.row.proofs.Rows.{row-read, row-bounds}
 use Rattle.model.specs.Limits.{mostTasks, mostActs, mostCodels}
 use Rattle.table.specs.Tables.{slots, made, totalOf, rowOf, addRow}
-use Rattle.table.specs.Checks.{rowFault, verdictOf, numberOf, refused, onFault, closed, checkRows, rowsFrom, kindsFrom, rowsOf, checkTable}
+use Rattle.table.specs.Checks.{rowFault, givenFault, verdictOf, numberOf, Said, numbersOf, says, refused, onFault, closed, checkRows, rowsFrom, kindsFrom, rowsOf, checkTable, Passes}
 use Rattle.table.specs.Marks.{marksLength, markOf, Building}
 use Rattle.table.specs.Texts.{longest, isEmpty, onRow, rowBehind, faultBehind, atEndRow, readLines, readTable, endRow, textOf, tableText, written, writeTable, writtenOver}
 use Rattle.table.specs.declared.Table.{Table}
 use Rattle.table.specs.declared.Answer.the-variants.{Fine, Refused}
 use Rattle.table.specs.declared.Read.{Read}
-use Rattle.table.specs.declared.Wrote.{Wrote}
-use Rattle.table.specs.declared.Wrote.the-variants as wrote
 use Rattle.table.specs.declared.Verdict.{Verdict}
 use Rattle.table.specs.declared.Verdict.the-variants as verdict
 use Rattle.table.proofs.Fields.{limitOf, below-limit, Worded, ok-worded, row-worded}
@@ -108,7 +106,7 @@ module _ (f : ℕ) (v : Verdict) (e : v ≡ verdictOf f) where
       none zero z = refl
       none (suc n) z = let y : _≡_ {A = ℕ} 0 1 = cc in absurd (omega arith)
 
-  verdict-stops : (n g line : ℕ) (go : Read) → v ≡ verdict.Refused n → g ≡ numberOf v → refused g line ≡ onFault f line go
+  verdict-stops : (n g line : ℕ) (go : Said) → v ≡ verdict.Refused n → g ≡ numberOf v → refused g line ≡ onFault f line go
   verdict-stops n g line go u q = let p : verdictOf f ≡ verdict.Refused n = sym e ∙ u in same f (q ∙ ap numberOf u) p
     where
       same : (m : ℕ) → g ≡ n → verdictOf m ≡ verdict.Refused n → refused g line ≡ onFault m line go
@@ -139,7 +137,7 @@ module _ (counts rows marks : List ℕ) (b : Building (made counts rows) marks) 
   follows = record { sized = building-sized b; worded = w; fine = f }
 
   storable : Storable counts rows marks r
-  unfolding limitOf formOf fieldsOf
+  unfolding limitOf formOf
   storable =
       let a = accepted follows in
       let first = a .limited 0 (omega arith) in (
@@ -163,7 +161,7 @@ module _ (counts rows marks : List ℕ) (b : Building (made counts rows) marks) 
         ∙ rw (p .0, rows-added follows, length-append (rowsOf (made counts rows)) (r ∷ []), rows-count (made counts rows))
 
 -- a text that is too long
-pub read-long : (s : List ℕ) → longest < length s → (x : Read) → x ≡ refused 3 0 → x ≡ readTable s
+pub read-long : (s : List ℕ) → longest < length s → (x : Said) → x ≡ refused 3 0 → x ≡ readTable s
 unfolding readTable
 read-long s h x q = q ∙ rw (lt-ltb _ _ h)
 
@@ -183,13 +181,13 @@ read-start s h =
 
 module _ {s : List ℕ} {at l : ℕ} {counts rows marks : List ℕ} (c : Reading s at l counts rows marks) where
   -- 6: no line is left
-  pub read-absent : length s ≤ at → (x : Read) → x ≡ refused 6 l → x ≡ readTable s
+  pub read-absent : length s ≤ at → (x : Said) → x ≡ refused 6 l → x ≡ readTable s
   unfolding readLines
   read-absent k x z = z ∙ rw (at-end s at (c .place) k) at (c .same)
 
   module _ (b : at < length s) (e : ℕ) (f : e ≡ firstAt s at 10) where
     -- 1: a line without newline
-    pub read-short : length s ≤ e → (x : Read) → x ≡ refused 1 l → x ≡ readTable s
+    pub read-short : length s ≤ e → (x : Said) → x ≡ refused 1 l → x ≡ readTable s
     unfolding readLines
     read-short k x z = z ∙ rw (last s at (c .place) e f k, filled s at (c .place) e f b k) at (c .same)
 
@@ -199,13 +197,13 @@ module _ {s : List ℕ} {at l : ℕ} {counts rows marks : List ℕ} (c : Reading
 
     module _ (k : e < length s) (y : Line) (q : y ≡ readRow (take (e - at) (drop at s))) where
       -- 1: a line that is no row
-      pub read-bad : y ≡ line.Bad → (x : Read) → x ≡ refused 1 l → x ≡ readTable s
+      pub read-bad : y ≡ line.Bad → (x : Said) → x ≡ refused 1 l → x ≡ readTable s
       read-bad u x z = z ∙ rw (lines-row s at (c .place) e f (made counts rows) l k, ← q, u) at (c .same)
 
       module _ (r : Row) (u : y ≡ line.Is r) where
         module _ (i : r .kind ≡ endKind) where
           -- 6: `end` with the wrong count
-          pub read-count : (r .a ≡ l - 1 → ⊥) → (x : Read) → x ≡ refused 6 l → x ≡ readTable s
+          pub read-count : (r .a ≡ l - 1 → ⊥) → (x : Said) → x ≡ refused 6 l → x ≡ readTable s
           read-count n x z = z ∙ rw (lines-row s at (c .place) e f (made counts rows) l k, ← q, u, eq-eqb _ _ i, ne-eqb _ _ n) at (c .same)
 
           module _ (n : r .a ≡ l - 1) (g : ℕ) (d : g ≡ faultBehind (partsFrom 10 s (e + 1))) where
@@ -213,11 +211,11 @@ module _ {s : List ℕ} {at l : ℕ} {counts rows marks : List ℕ} (c : Reading
             after-end = rw d (rw (lines-row s at (c .place) e f (made counts rows) l k, ← q, u, eq-eqb _ _ i, eq-eqb _ _ n) at (c .same))
 
             -- 1 or 2: something behind `end`
-            pub read-behind : (g ≡ 0 → ⊥) → (x : Read) → x ≡ refused g (l + 1) → x ≡ readTable s
+            pub read-behind : (g ≡ 0 → ⊥) → (x : Said) → x ≡ refused g (l + 1) → x ≡ readTable s
             read-behind ne x z = z ∙ stops g (l + 1) _ ne ∙ after-end
 
             -- the table is closed
-            pub read-whole : g ≡ 0 → (x : Read) → x ≡ closed (made counts rows) l → x ≡ readTable s
+            pub read-whole : g ≡ 0 → (x : Said) → x ≡ closed (made counts rows) l → x ≡ readTable s
             read-whole o x z = z ∙ rw o at after-end
 
         module _ (i : r .kind ≡ endKind → ⊥) (v : Verdict) (d : v ≡ verdictOf (rowFault (made counts rows) r)) where
@@ -226,7 +224,7 @@ module _ {s : List ℕ} {at l : ℕ} {counts rows marks : List ℕ} (c : Reading
           row-next = rw (lines-row s at (c .place) e f (made counts rows) l k, ← q, u, ne-eqb _ _ i) at (c .same)
 
           -- the row is refused
-          pub read-refused : (n g : ℕ) → v ≡ verdict.Refused n → g ≡ numberOf v → (x : Read) → x ≡ refused g l → x ≡ readTable s
+          pub read-refused : (n g : ℕ) → v ≡ verdict.Refused n → g ≡ numberOf v → (x : Said) → x ≡ refused g l → x ≡ readTable s
           read-refused n g o p x z = z ∙ verdict-stops (rowFault (made counts rows) r) v d n g l _ o p ∙ row-next
 
           module _ (o : v ≡ verdict.Fine) where
@@ -314,7 +312,7 @@ check-start t = record { line = refl; built = building-empty; same = rw (left-al
 
 module _ {t : Table} {k i l : ℕ} {counts rows marks : List ℕ} (c : Checking t k i l counts rows marks) where
   -- no row is left
-  pub check-end : 5 ≤ k → (x : Read) → x ≡ closed (made counts rows) l → x ≡ checkTable t
+  pub check-end : 5 ≤ k → (x : Said) → x ≡ closed (made counts rows) l → x ≡ checkTable t
   unfolding checkRows
   check-end h x z = z ∙ rw (left-none t k i h) at (c .same)
 
@@ -330,15 +328,30 @@ module _ {t : Table} {k i l : ℕ} {counts rows marks : List ℕ} (c : Checking 
     pub check-skip : getD (t .counts) k 0 ≤ i → Checking t (k + 1) 0 l counts rows marks
     check-skip b = record { line = c .line; built = c .built; same = rw (left-skip t k i h b) at (c .same) }
 
-    module _ (b : i < getD (t .counts) k 0) (r : Row) (q : r ≡ rowOf (t .rows) k i) (v : Verdict)
-        (d : v ≡ verdictOf (rowFault (made counts rows) r)) where
-      check-next : onFault (rowFault (made counts rows) r) l (checkRows (addRow (made counts rows) r) (l + 1) (left t k (i + 1))) ≡ checkTable t
+    module _ (b : i < getD (t .counts) k 0) (n : ℕ) (y : n ≡ mostOf k) where
+      check-given : (r : Row) → r ≡ rowOf (t .rows) k i
+          → onFault (givenFault (made counts rows) r) l (checkRows (addRow (made counts rows) r) (l + 1) (left t k (i + 1))) ≡ checkTable t
       unfolding checkRows
-      check-next = rw q (rw (left-next t k i h b) at (c .same))
+      check-given r q = rw q (rw (left-next t k i h b) at (c .same))
+
+      -- 3: there is no room for the row
+      pub check-full : n ≤ getD counts k 0 → (x : Said) → x ≡ refused 3 l → x ≡ checkTable t
+      unfolding givenFault
+      check-full m x z =
+          let o : mostOf k ≤ getD counts k 0 = rw y at m in
+          z ∙ rw (le-ltb _ _ o) at (check-given (rowOf (t .rows) k i) refl)
+
+    module _ (b : i < getD (t .counts) k 0) (n : ℕ) (y : n ≡ mostOf k) (m : getD counts k 0 < n)
+        (r : Row) (q : r ≡ rowOf (t .rows) k i) (v : Verdict) (d : v ≡ verdictOf (rowFault (made counts rows) r)) where
+      check-next : onFault (rowFault (made counts rows) r) l (checkRows (addRow (made counts rows) r) (l + 1) (left t k (i + 1))) ≡ checkTable t
+      unfolding givenFault
+      check-next =
+          let room : ltb (getD counts (r .kind) 0) (mostOf (r .kind)) ≡ true = rw (q, ← y) (lt-ltb _ _ m) in
+          rw room at (check-given b n y r q)
 
       -- the row is refused
-      pub check-stops : (n g : ℕ) → v ≡ verdict.Refused n → g ≡ numberOf v → (x : Read) → x ≡ refused g l → x ≡ checkTable t
-      check-stops n g o p x z = z ∙ verdict-stops (rowFault (made counts rows) r) v d n g l _ o p ∙ check-next
+      pub check-stops : (f g : ℕ) → v ≡ verdict.Refused f → g ≡ numberOf v → (x : Said) → x ≡ refused g l → x ≡ checkTable t
+      check-stops f g o p x z = z ∙ verdict-stops (rowFault (made counts rows) r) v d f g l _ o p ∙ check-next
 
       module _ (o : v ≡ verdict.Fine) where
         check-passed : rowFault (made counts rows) r ≡ 0
@@ -362,7 +375,7 @@ module _ {t : Table} {k i l : ℕ} {counts rows marks : List ℕ} (c : Checking 
             }
 
 -- an accepted table has few rows, and its text starts with them
-pub few : (t : Table) → checkTable t .answer ≡ Fine → totalOf (t .counts) ≤ 1360
+pub few : (t : Table) → Passes t → totalOf (t .counts) ≤ 1360
 few t e = rw (rows-count t) at (few-rows t (checkTable t .table) (fine-accepts (checkTable t) e))
 
 text-start : (t : Table) → textOf (totalOf (t .counts)) (left t 0 0) ≡ tableText t
@@ -443,25 +456,29 @@ module _ {t : Table} {k i at : ℕ} {buf buf₀ : List ℕ} (c : Putting t k i a
         (d .0 ∙ wide, d .1 ∙ rw (q, p) (rw (left-none t k i h) at (c .same)))
 
 -- a table written: refused, longer than the buffer, or whole
-module _ (t : Table) (c : Read) (e : c ≡ checkTable t) (buf : List ℕ) where
+module _ (t : Table) (c : Read) (e : says c ≡ checkTable t) (buf : List ℕ) where
+  told-same : checkTable t .numbers ≡ numbersOf (c .answer)
+  told-same = ap (λ (x : Said). x .numbers) (sym e)
+
   -- the table is accepted
-  pub checked-fine : c .answer ≡ Fine → checkTable t .answer ≡ Fine
-  checked-fine u = rw e at u
+  pub checked-fine : c .answer ≡ Fine → Passes t
+  checked-fine u = told-same ∙ ap numbersOf u
 
   -- the table is refused
-  pub write-refused : (n l : ℕ) → c .answer ≡ Refused n l → (w : Wrote) → w ≡ written (c .answer) 0 0
-      → (w ≡ writeTable t (length buf)) × (buf ≡ writtenOver w (tableText t) buf)
+  pub write-refused : (n l : ℕ) → c .answer ≡ Refused n l → (w : List ℕ) → w ≡ written (numbersOf (c .answer)) 0 0
+      → (w ≡ writeTable t (length buf)) × (buf ≡ writtenOver (writeTable t (length buf)) (tableText t) buf)
   unfolding writeTable
-  write-refused n l u w q = let z : w ≡ wrote.Refused n l = rw u at q in rw (← e, u, z) (refl, refl)
+  write-refused n l u w q = rw (told-same, u) (rw u at q, refl)
 
   module _ (u : c .answer ≡ Fine) (n : ℕ) (q : n ≡ length (tableText t)) where
     -- 31: the text is longer than the buffer
-    pub write-short : length buf < n → (wrote.Refused 31 0 ≡ writeTable t (length buf)) × (buf ≡ buf)
+    pub write-short : length buf < n
+        → (31 ∷ 0 ∷ [] ≡ writeTable t (length buf)) × (buf ≡ writtenOver (writeTable t (length buf)) (tableText t) buf)
     unfolding writeTable
-    write-short h = (rw (← e, u, ← q, lt-leb _ _ h), refl)
+    write-short h = rw (told-same, u, ← q, lt-leb _ _ h) (refl, refl)
 
     -- the text is written
     pub write-whole : n ≤ length buf → (m : ℕ) (after : List ℕ) → (m ≡ length (tableText t)) × (after ≡ sets buf 0 (tableText t))
-        → (wrote.Length m ≡ writeTable t (length buf)) × (after ≡ sets buf 0 (tableText t))
+        → (m ∷ [] ≡ writeTable t (length buf)) × (after ≡ writtenOver (writeTable t (length buf)) (tableText t) buf)
     unfolding writeTable
-    write-whole h m after p = (rw (← e, u, ← q, le-leb _ _ h) (ap wrote.Length (p .0 ∙ sym q)), p .1)
+    write-whole h m after p = rw (told-same, u, ← q, le-leb _ _ h) (rw (p .0, q), p .1)

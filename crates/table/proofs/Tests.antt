@@ -4,7 +4,7 @@ use mathlib.Core.Path.{_≡_, refl, sym, _∙_}
 use mathlib.Core.Bool.{Bool, true, false, not}
 use native.Mathlib.Omega.{arith}
 use Rattle.text.proofs.Picks.{cases, false-true}
-use Rattle.model.specs.Tests.{_and_, _or_, each, some, need}
+use Rattle.model.specs.Tests.{_and_, _or_, each, some, after, need}
 use Rattle.model.proofs.Tests.{T-true, true-T, same-test, and-both, each-mk}
 use Rattle.model.proofs.Tests as tests
 
@@ -45,6 +45,11 @@ module _ (p q : ℕ → Bool) where
   unfolding some
   some-same zero h = refl
   some-same (suc n) h = rw (some-same n (λ i l. h i (omega arith)), h n (omega arith))
+
+  -- and at the number before
+  pub after-same : (n : ℕ) → ((i : ℕ) → i < n → p i ≡ q i) → after n p ≡ after n q
+  after-same zero h = refl
+  after-same (suc n) h = h n (omega arith)
 
 -- a test fails at each number where it holds at none
 pub each-not : (n : ℕ) (p : ℕ → Bool) → each n (λ i. not (p i)) ≡ not (some n p)

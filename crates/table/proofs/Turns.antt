@@ -21,17 +21,15 @@ use Rattle.model.specs.Tables as model
 use Rattle.model.specs.Rows.{taskFault, actFault, codelFault, edgeFault, mutexFault, placeBelow, edgeBelow, targetOk, lastFault}
 use Rattle.model.proofs.Asked.{no-by, yes-by}
 use Rattle.table.specs.Tables.{slots, made, slotOf, etherSlot, narrowed, widened, shown, fieldOf, addRow, pairBelow, tableOf}
-use Rattle.table.specs.Checks.{inPlace, kindFault, rowFault, verdictOf, refused, onFault, closed}
+use Rattle.table.specs.Checks.{inPlace, kindFault, rowFault, verdictOf, Said, accepts, refused, onFault, closed}
 use Rattle.table.specs.Marks.{kindMark, markOf, marked, Building}
 use Rattle.table.specs.declared.Verdict.the-variants.{Fine, Refused}
-use Rattle.table.specs.declared.Read.{Read}
 use Rattle.table.proofs.Tests.{each-fails, each-same}
 use Rattle.table.proofs.Stored.{stretch}
-use Rattle.table.proofs.Built.{accepts}
 use Rattle.table.proofs.Marks.{last-by-marks, alone-by-marks}
 
 -- a refusal at a line
-pub stops : (f line : ℕ) (go : Read) → (f ≡ 0 → ⊥) → refused f line ≡ onFault f line go
+pub stops : (f line : ℕ) (go : Said) → (f ≡ 0 → ⊥) → refused f line ≡ onFault f line go
 stops zero line go h = absurd (h refl)
 stops (suc f) line go h = refl
 
@@ -548,7 +546,7 @@ module _ (counts rows marks : List ℕ) (b : Building (made counts rows) marks) 
 -- a table closed at a line
 module _ (counts rows : List ℕ) (line f : ℕ) (e : f ≡ lastFault (tableOf (made counts rows))) where
   -- something is missing
-  pub close-refused : (f ≡ 0 → ⊥) → (r : Read) → r ≡ refused f line → r ≡ closed (made counts rows) line
+  pub close-refused : (f ≡ 0 → ⊥) → (r : Said) → r ≡ refused f line → r ≡ closed (made counts rows) line
   close-refused h r q = q ∙ rw (← e) (stops f line _ h)
 
   -- nothing is missing

@@ -1,5 +1,5 @@
 -- A table that is accepted row by row is well formed as a whole: what was accepted behind the rows before it stays so beside all others.
-use Prim.Native.Nat.{ℕ, zero, suc, _≤_, _<_}
+use Prim.Native.Nat.{ℕ, _≤_, _<_}
 use mathlib.Core.Path.{_≡_, refl, ap, _∙_}
 use mathlib.Core.List.{List}
 use mathlib.Core.Bool.{Bool, true, not}
@@ -18,10 +18,9 @@ use Rattle.model.specs.Rows.{hasAct, hasStart, leaves, lastFault, wellformed}
 use Rattle.model.specs.declared.Place.{Place}
 use Rattle.model.specs.declared.Place.the-variants.{Ether, Codel}
 use Rattle.table.specs.Tables.{emptyTable, fieldOf, rowOf, addRow, tableOf}
-use Rattle.table.specs.Checks.{kindFault, rowFault, inPlace, rowsOf, checkTable}
+use Rattle.table.specs.Checks.{kindFault, rowFault, inPlace, rowsOf, checkTable, Passes}
 use Rattle.table.specs.declared.Table.{Table}
-use Rattle.table.specs.declared.Answer.the-variants.{Fine}
-use Rattle.table.proofs.Tests.{needed, each-all, each-same, some-same}
+use Rattle.table.proofs.Tests.{needed, each-all, each-same, some-same, after-same}
 use Rattle.table.proofs.Fields.{by-kind}
 use Rattle.table.proofs.Faults.{act-passes, codel-passes, edge-passes, mutex-passes}
 use Rattle.table.proofs.Accepted.{Follows}
@@ -31,7 +30,7 @@ use Rattle.table.proofs.Grown.{Grown, grown-added, same-counts, same-gr
 use Rattle.table.proofs.Built.{Built, done, more, built-all, table-whole, fine-accepts}
 
 -- the refusal of a row behind the first n rows of its kind
-faultAt : model.Table → ℕ → Row → ℕ
+unfoldable pub faultAt : model.Table → ℕ → Row → ℕ
 faultAt K n r =
     pick (eqb (r .kind) 0) (taskFault n (r .a) (r .b))
     (pick (eqb (r .kind) 1) (actFault K n (r .a))
@@ -40,7 +39,7 @@ faultAt K n r =
     (mutexFault K n (r .a) (r .b)))))
 
 -- each row of a table is accepted behind those before it
-RowsFine : Table → Type 0
+unfoldable pub RowsFine : Table → Type 0
 RowsFine t = (k i : ℕ) → k < 5 → i < getD (t .counts) k 0 → faultAt (tableOf t) i (rowOf (t .rows) k i) ≡ 0
 
 -- an edge and a mutex as the rules see them
@@ -50,101 +49,114 @@ edgeOf r = record { source = r .a; target = targetOf (r .b); pause = eqb (r .c) 
 abbrev mutexOf : Row → MutexRow
 mutexOf r = record { lo = r .a; hi = r .b }
 
--- what the rules see of the rows that are in both tables
-module _ (t u : Table) (g : Grown t u) where
-  first-kept : (k i : ℕ) → k < 5 → i < getD (t .counts) k 0 → fieldOf (u .rows) k i 0 ≡ fieldOf (t .rows) k i 0
-  first-kept k i h l = ap (λ (r : Row). r .a) (g .rows k i h l)
+-- what decides on a row of kind k behind n rows of its kind is in u as in t: the earlier kinds, and those n rows
+pub record Behind (t u : Table) (k n : ℕ) : Type 0 where
+  pub counts : (m : ℕ) → m < k → getD (t .counts) m 0 ≤ getD (u .counts) m 0
+  pub rows : (m i : ℕ) → m < k → i < getD (t .counts) m 0 → rowOf (u .rows) m i ≡ rowOf (t .rows) m i
+  pub own : (i : ℕ) → i < n → rowOf (u .rows) k i ≡ rowOf (t .rows) k i
 
-  second-kept : (k i : ℕ) → k < 5 → i < getD (t .counts) k 0 → fieldOf (u .rows) k i 1 ≡ fieldOf (t .rows) k i 1
-  second-kept k i h l = ap (λ (r : Row). r .b) (g .rows k i h l)
+module _ {t u : Table} {k n : ℕ} (s : Behind t u k n) where
+  first-kept : (m i : ℕ) → m < k → i < getD (t .counts) m 0 → fieldOf (u .rows) m i 0 ≡ fieldOf (t .rows) m i 0
+  first-kept m i h l = ap (λ (r : Row). r .a) (s .rows m i h l)
+
+  second-kept : (m i : ℕ) → m < k → i < getD (t .counts) m 0 → fieldOf (u .rows) m i 1 ≡ fieldOf (t .rows) m i 1
+  second-kept m i h l = ap (λ (r : Row). r .b) (s .rows m i h l)
 
   -- a test of the row before
-  order-kept : (k : ℕ) → k < 5 → (n : ℕ) → n ≤ getD (t .counts) k 0 → (q : Row → Bool)
-      → after n (λ i. q (rowOf (u .rows) k i)) ≡ after n (λ i. q (rowOf (t .rows) k i))
-  order-kept k h zero l q = refl
-  order-kept k h (suc n) l q = ap q (g .rows k n h (omega arith))
+  order-kept : (q : Row → Bool) → after n (λ i. q (rowOf (u .rows) k i)) ≡ after n (λ i. q (rowOf (t .rows) k i))
+  order-kept q = after-same (λ i. q (rowOf (u .rows) k i)) (λ i. q (rowOf (t .rows) k i)) n (λ i l. ap q (s .own i l))
 
   -- a number that names a row still names it
-  named : (k v : ℕ) → k < 5 → ltb v (getD (t .counts) k 0) ≡ true → ltb v (getD (u .counts) k 0) ≡ true
-  named k v h e = let l = ltb-true v (getD (t .counts) k 0) e in lt-ltb v (getD (u .counts) k 0) (omega (arith, g .counts k h))
+  named : (m v : ℕ) → m < k → ltb v (getD (t .counts) m 0) ≡ true → ltb v (getD (u .counts) m 0) ≡ true
+  named m v h e = let l = ltb-true v (getD (t .counts) m 0) e in lt-ltb v (getD (u .counts) m 0) (omega (arith, s .counts m h))
 
-  known-kept : (p : Place) → known (tableOf t) p ≡ true → known (tableOf u) p ≡ true
-  unfolding tableOf
-  known-kept Ether e = refl
-  known-kept (Codel c) e = named 2 c (omega arith) e
+  module _ (h : 2 < k) where
+    known-kept : (p : Place) → known (tableOf t) p ≡ true → known (tableOf u) p ≡ true
+    unfolding tableOf
+    known-kept Ether e = refl
+    known-kept (Codel c) e = named 2 c h e
 
-  stays-kept : (c : ℕ) (p : Place) (pause : Bool) → ltb c (tableOf t .ncodels) ≡ true → known (tableOf t) p ≡ true
-      → targetOk (tableOf u) c p pause ≡ targetOk (tableOf t) c p pause
-  unfolding tableOf
-  stays-kept c Ether pause h l = refl
-  stays-kept c (Codel d) pause h l =
-      let m = ltb-true d (getD (t .counts) 2 0) l in
-      rw (first-kept 2 c (omega arith) (ltb-true _ _ h), first-kept 2 d (omega arith) m, second-kept 2 d (omega arith) m)
+    stays-kept : (c : ℕ) (p : Place) (pause : Bool) → ltb c (tableOf t .ncodels) ≡ true → known (tableOf t) p ≡ true
+        → targetOk (tableOf u) c p pause ≡ targetOk (tableOf t) c p pause
+    unfolding tableOf
+    stays-kept c Ether pause l m = refl
+    stays-kept c (Codel d) pause l m =
+        let b = ltb-true d (getD (t .counts) 2 0) m in
+        rw (first-kept 2 c h (ltb-true _ _ l), first-kept 2 d h b, second-kept 2 d h b)
 
-  -- a row that was accepted behind the first n rows of its kind stays so
-  module _ (owned : (i : ℕ) → i < getD (t .counts) 2 0 → tableOf t .owner i < getD (t .counts) 1 0) (n : ℕ) where
-    abbrev Stays : Row → Type 0
-    Stays r = n ≤ getD (t .counts) (r .kind) 0 → faultAt (tableOf t) n r ≡ 0 → faultAt (tableOf u) n r ≡ 0
+-- each codel's activity is there
+unfoldable pub Owned : Table → Type 0
+Owned t = (i : ℕ) → i < getD (t .counts) 2 0 → tableOf t .owner i < getD (t .counts) 1 0
 
-    stays : (r : Row) → r .kind < 5 → Stays r
-    unfolding faultAt tableOf
-    stays =
-        by-kind Stays
-        (λ a b c h f. f)
-        (λ a b c h f.
-        let p = act-passes (tableOf t) n a f in
-        rw (order-kept 1 (omega arith) n h (λ r. leb (r .a) a), p .order, p .room, named 0 a (omega arith) (p .names)))
-        (λ a b c h f.
-        let p = codel-passes (tableOf t) n a b c f in
-        rw (
-          order-kept 2 (omega arith) n h (λ r. leb (r .a) a),
-          p .order,
-          p .room,
-          p .limit,
-          named 1 a (omega arith) (p .names),
-          each-same (λ i. not (isKind (tableOf u) a b i)) (λ i. not (isKind (tableOf t) a b i)) n
-              (λ i l. ap (λ (r : Row). not (eqb (r .a) a and eqb (r .b) b)) (g .rows 2 i (omega arith) (omega arith))),
-          p .alone,
-        ))
-        (λ a b c h f.
-        let p = edge-passes (tableOf t) n a (targetOf b) (eqb c 1) f in
-        rw (
-          order-kept 3 (omega arith) n h (λ r. edgeBelow (edgeOf r) a (targetOf b)),
-          p .order,
-          p .room,
-          named 2 a (omega arith) (p .source),
-          known-kept (targetOf b) (p .target),
-          stays-kept a (targetOf b) (eqb c 1) (p .source) (p .target),
-          p .stays,
-        ))
-        (λ a b c h f.
-        let p = mutex-passes (tableOf t) n a b f in
-        let x = ltb-true a (getD (t .counts) 2 0) (p .lower) in
-        let y = ltb-true b (getD (t .counts) 2 0) (p .higher) in
-        rw (
-          p .first,
-          order-kept 4 (omega arith) n h (λ r. mutexBelow (mutexOf r) a b),
-          p .order,
-          p .room,
-          named 2 a (omega arith) (p .lower),
-          named 2 b (omega arith) (p .higher),
-          first-kept 2 a (omega arith) x,
-          first-kept 2 b (omega arith) y,
-          first-kept 1 (tableOf t .owner a) (omega arith) (owned a x),
-          first-kept 1 (tableOf t .owner b) (omega arith) (owned b y),
-          p .spans,
-        ))
+-- a row that is accepted behind the first n rows of its kind in t is so in u
+module _ (t u : Table) (owned : Owned t) (n : ℕ) where
+  abbrev Stays : Row → Type 0
+  Stays r = Behind t u (r .kind) n → faultAt (tableOf t) n r ≡ 0 → faultAt (tableOf u) n r ≡ 0
+
+  pub stays : (r : Row) → r .kind < 5 → Stays r
+  unfolding faultAt tableOf Owned
+  stays =
+      by-kind Stays
+      (λ a b c s f. f)
+      (λ a b c s f.
+      let p = act-passes (tableOf t) n a f in
+      rw (order-kept s (λ r. leb (r .a) a), p .order, p .room, named s 0 a (omega arith) (p .names)))
+      (λ a b c s f.
+      let p = codel-passes (tableOf t) n a b c f in
+      rw (
+        order-kept s (λ r. leb (r .a) a),
+        p .order,
+        p .room,
+        p .limit,
+        named s 1 a (omega arith) (p .names),
+        each-same (λ i. not (isKind (tableOf u) a b i)) (λ i. not (isKind (tableOf t) a b i)) n
+            (λ i l. ap (λ (r : Row). not (eqb (r .a) a and eqb (r .b) b)) (s .own i l)),
+        p .alone,
+      ))
+      (λ a b c s f.
+      let p = edge-passes (tableOf t) n a (targetOf b) (eqb c 1) f in
+      rw (
+        order-kept s (λ r. edgeBelow (edgeOf r) a (targetOf b)),
+        p .order,
+        p .room,
+        named s 2 a (omega arith) (p .source),
+        known-kept s (omega arith) (targetOf b) (p .target),
+        stays-kept s (omega arith) a (targetOf b) (eqb c 1) (p .source) (p .target),
+        p .stays,
+      ))
+      (λ a b c s f.
+      let p = mutex-passes (tableOf t) n a b f in
+      let x = ltb-true a (getD (t .counts) 2 0) (p .lower) in
+      let y = ltb-true b (getD (t .counts) 2 0) (p .higher) in
+      rw (
+        p .first,
+        order-kept s (λ r. mutexBelow (mutexOf r) a b),
+        p .order,
+        p .room,
+        named s 2 a (omega arith) (p .lower),
+        named s 2 b (omega arith) (p .higher),
+        first-kept s 2 a (omega arith) x,
+        first-kept s 2 b (omega arith) y,
+        first-kept s 1 (tableOf t .owner a) (omega arith) (owned a x),
+        first-kept s 1 (tableOf t .owner b) (omega arith) (owned b y),
+        p .spans,
+      ))
+
+-- a table that has grown has what decides on its rows
+grown-behind : {t u : Table} → Grown t u → (k n : ℕ) → k < 5 → n ≤ getD (t .counts) k 0 → Behind t u k n
+grown-behind g k n h l =
+    record { counts = λ m a. g .counts m (omega arith); rows = λ m i a. g .rows m i (omega arith); own = λ i a. g .rows k i h (omega arith) }
 
 -- the own refusal of a row is that behind all rows of its kind
-own-fault : (t : Table) (r : Row) → r .kind < 5 → kindFault (tableOf t) r ≡ faultAt (tableOf t) (placeOf t r) r
+pub own-fault : (t : Table) (r : Row) → r .kind < 5 → kindFault (tableOf t) r ≡ faultAt (tableOf t) (placeOf t r) r
 unfolding kindFault faultAt tableOf
 own-fault t =
     by-kind (λ r. kindFault (tableOf t) r ≡ faultAt (tableOf t) (placeOf t r) r)
     (λ a b c. refl) (λ a b c. refl) (λ a b c. refl) (λ a b c. refl) (λ a b c. refl)
 
 -- where each row is accepted, each codel's activity is there
-fine-owned : (t : Table) → RowsFine t → (i : ℕ) → i < getD (t .counts) 2 0 → tableOf t .owner i < getD (t .counts) 1 0
-unfolding RowsFine faultAt tableOf
+pub fine-owned : (t : Table) → RowsFine t → Owned t
+unfolding RowsFine Owned faultAt tableOf
 fine-owned t s i h =
     let r = rowOf (t .rows) 2 i in
     ltb-true _ _ (codel-passes (tableOf t) i (r .a) (r .b) (r .c) (s 2 i (omega arith) h) .names)
@@ -153,7 +165,9 @@ fine-owned t s i h =
 fine-grown : (t u : Table) → Grown t u → RowsFine t → (k i : ℕ) → k < 5 → i < getD (t .counts) k 0
     → faultAt (tableOf u) i (rowOf (u .rows) k i) ≡ 0
 unfolding RowsFine
-fine-grown t u g s k i h l = rw (g .rows k i h l) (stays t u g (fine-owned t s) i (rowOf (t .rows) k i) h (omega arith) (s k i h l))
+fine-grown t u g s k i h l =
+    rw (g .rows k i h l)
+    (stays t u (fine-owned t s) i (rowOf (t .rows) k i) h (grown-behind g k i h (omega arith)) (s k i h l))
 
 -- and so is a row that is added
 fine-added : {t : Table} {r : Row} → Follows t r → RowsFine t → RowsFine (addRow t r)
@@ -169,7 +183,8 @@ fine-added {t} {r} f o k i h l =
     let d = ap (λ (j : ℕ). getD (addRow t r .counts) j 0) q in
     let p : i ≡ placeOf t r = omega (arith, count-same f) in
     let own = rw (own-fault t r (f .worded .kind)) at (needed (inPlace (t .counts) (r .kind)) 1 (f .fine) .1) in
-    rw (q, p, stored f) (stays t (addRow t r) g (fine-owned t o) (placeOf t r) r (f .worded .kind) (omega arith) own))
+    let before = grown-behind g (r .kind) (placeOf t r) (f .worded .kind) (omega arith) in
+    rw (q, p, stored f) (stays t (addRow t r) (fine-owned t o) (placeOf t r) r (f .worded .kind) before own))
 
 fine-built : {t u : Table} {rs : List Row} → Built t rs u → RowsFine t → RowsFine u
 fine-built done o = o
@@ -191,7 +206,7 @@ module _ (t u : Table) (e : rowsOf t ≡ rowsOf u) where
       rw (← same-counts t u e k h)
       (some-same (λ i. q (rowOf (u .rows) k i)) (λ i. q (rowOf (t .rows) k i)) (getD (t .counts) k 0) (λ i l. ap q (rows i h l)))
 
-  last-same : lastFault (tableOf u) ≡ lastFault (tableOf t)
+  pub last-same : lastFault (tableOf u) ≡ lastFault (tableOf t)
   unfolding lastFault tableOf
   last-same =
       rw (
@@ -212,7 +227,7 @@ fines t s k h =
     each-all (getD (t .counts) k 0) (λ i. accepted (faultAt (tableOf t) i (rowOf (t .rows) k i))) (λ i l. eq-eqb _ 0 (s k i h l))
 
 -- an accepted table is well formed
-pub accepted-wellformed : (t : Table) → checkTable t .answer ≡ Fine → wellformed (tableOf t) ≡ true
+pub accepted-wellformed : (t : Table) → Passes t → wellformed (tableOf t) ≡ true
 unfolding wellformed faultAt tableOf
 accepted-wellformed t e =
     let w = table-whole t (checkTable t .table) (fine-accepts (checkTable t) e) in

@@ -9,25 +9,23 @@ use lib.Dec.{eqb}
 use borrow.Author.Tests.{ne-eqb}
 use Rattle.text.specs.Parts.{pick}
 use Rattle.text.specs.Number.{digits}
-use Rattle.text.specs.Words.{wordAt}
 use Rattle.text.specs.Fields.{etherValue, etherWord}
 use Rattle.text.proofs.Numbers.{digits-short}
 use Rattle.text.proofs.Picks.{order}
-use Rattle.row.specs.Kinds.{rowWords, kindWords, modeWords, fieldsOf, mostOf, formOf, aTarget}
+use Rattle.row.specs.Kinds.{kindWords, modeWords, wordOf, mostOf, formOf, aTarget}
 use Rattle.row.specs.Row.{rowLine, rowText}
 use Rattle.row.specs.declared.Row.{Row}
 use Rattle.row.proofs.Tables.{word-within}
 use Rattle.model.specs.Tests.{sum}
 use Rattle.table.specs.Tables.{totalOf, addRow}
-use Rattle.table.specs.Checks.{rowsOf, checkTable}
+use Rattle.table.specs.Checks.{accepts, rowsOf, checkTable, Passes}
 use Rattle.table.specs.Texts.{longest, endRow, textOf, tableText}
 use Rattle.table.specs.declared.Table.{Table}
-use Rattle.table.specs.declared.Answer.the-variants.{Fine}
 use Rattle.table.proofs.Fields.{by-kind, limitOf, within, by-limit, below-limit, Limited}
 use Rattle.table.proofs.Accepted.{Sized, Follows, accepted}
 use Rattle.table.proofs.Stored.{empty-sized, count-same, count-other}
 use Rattle.table.proofs.RowsOf.{rows-count}
-use Rattle.table.proofs.Built.{Built, done, more, built-sized, built-all, table-whole, accepts, fine-accepts}
+use Rattle.table.proofs.Built.{Built, done, more, built-sized, built-all, table-whole, fine-accepts}
 
 -- the most bytes of a row, its newline among them
 unfoldable wideOf : ℕ → ℕ
@@ -46,7 +44,7 @@ target-short b h =
 
 -- a row within its limits is no longer
 row-short : (r : Row) → r .kind < 5 → Limited r → length (rowText r) ≤ wideOf (r .kind)
-unfolding rowLine rowWords kindWords modeWords wordAt formOf fieldsOf limitOf wideOf
+unfolding rowLine wordOf kindWords modeWords formOf limitOf wideOf
 row-short =
     by-kind (λ r. Limited r → length (rowText r) ≤ wideOf (r .kind))
     (λ a b c l.
@@ -71,7 +69,7 @@ row-short =
 
 -- nor is the `end` row
 end-short : (n : ℕ) → n < 10000 → length (rowText (endRow n)) ≤ 9
-unfolding rowLine rowWords wordAt formOf fieldsOf
+unfolding rowLine wordOf formOf
 end-short n h = let p = digits-short n 4 h (omega arith) in simp length-append (omega arith)
 
 -- so many bytes for so many rows of each kind
@@ -124,7 +122,7 @@ few-rows t u e =
     rw (← built-all b, rows-count) (most-rows u (built-sized empty-sized b) .0)
 
 -- the text of an accepted table is short enough to be read
-pub text-short : (t : Table) → checkTable t .answer ≡ Fine → length (tableText t) ≤ longest
+pub text-short : (t : Table) → Passes t → length (tableText t) ≤ longest
 unfolding tableText
 text-short t e =
     let q = fine-accepts (checkTable t) e in

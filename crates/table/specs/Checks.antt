@@ -2,9 +2,11 @@
 use Prim.Native.Nat.{ℕ, zero, suc, _+_}
 use mathlib.Core.List.{List, [], _∷_, _++_}
 use mathlib.Core.Bool.{Bool}
+use mathlib.Core.Path.{_≡_}
 use lib.ListN.{getD}
 use lib.Dec.{ltb, eqb}
 use Rattle.text.specs.Parts.{pick}
+use Rattle.row.specs.Kinds.{mostOf}
 use Rattle.row.specs.declared.Row.{Row}
 use Rattle.model.specs.Tables.{targetOf}
 use Rattle.model.specs.Tests.{_implies_, each, need}
@@ -12,7 +14,8 @@ use Rattle.model.specs.Rows.{taskFault, actFault, codelFault, edgeFault, mutexF
 use Rattle.model.specs.Tables as model
 use Rattle.table.specs.Tables.{emptyTable, rowOf, addRow, tableOf}
 use Rattle.table.specs.declared.Table.{Table}
-use Rattle.table.specs.declared.Answer.the-variants.{Fine, Refused}
+use Rattle.table.specs.declared.Answer.{Answer}
+use Rattle.table.specs.declared.Answer.the-variants as answer
 use Rattle.table.specs.declared.Read.{Read}
 use Rattle.table.specs.declared.Verdict.{Verdict}
 use Rattle.table.specs.declared.Verdict.the-variants as verdict
@@ -33,6 +36,10 @@ kindFault K r =
 unfoldable pub rowFault : Table → Row → ℕ
 rowFault t r = need (inPlace (t .counts) (r .kind)) 2 (kindFault (tableOf t) r)
 
+-- a given row that there is no room for is 3, "one row too many of its kind": nothing is stored of it, so no other test comes before
+unfoldable pub givenFault : Table → Row → ℕ
+givenFault t r = need (ltb (getD (t .counts) (r .kind) 0) (mostOf (r .kind))) 3 (rowFault t r)
+
 -- the check's answer for a fault, and the number of an answer
 abbrev pub verdictOf : ℕ → Verdict
 verdictOf zero = verdict.Fine
@@ -42,23 +49,39 @@ abbrev pub numberOf : Verdict → ℕ
 numberOf verdict.Fine = 0
 numberOf (verdict.Refused n) = n
 
--- a refusal's answer: no table comes with it
-abbrev pub refused : ℕ → ℕ → Read
-refused n l = record { answer = Refused n l; table = emptyTable }
+-- what the reader, or the check of a given table, tells: "The answer is number and line", no numbers where nothing is refused; and the table
+pub record Said : Type 0 where
+  pub numbers : List ℕ
+  pub table : Table
+
+-- a table that is accepted; a refusal comes with the empty table
+abbrev pub accepts : Table → Said
+accepts t = record { numbers = []; table = t }
+
+abbrev pub refused : ℕ → ℕ → Said
+refused n l = record { numbers = n ∷ l ∷ []; table = emptyTable }
+
+-- the page's number and values for each case of the code's answer
+abbrev pub numbersOf : Answer → List ℕ
+numbersOf answer.Fine = []
+numbersOf (answer.Refused n l) = n ∷ l ∷ []
+
+abbrev pub says : Read → Said
+says r = record { numbers = numbersOf (r .answer); table = r .table }
 
 -- on no fault go on, else refuse at line l
-abbrev pub onFault : ℕ → ℕ → Read → Read
+abbrev pub onFault : ℕ → ℕ → Said → Said
 onFault zero l go = go
 onFault (suc n) l go = refused (suc n) l
 
 -- 7 after the last row: "line: the `end` row"
-abbrev pub closed : Table → ℕ → Read
-closed t l = onFault (lastFault (tableOf t)) l (record { answer = Fine; table = t })
+abbrev pub closed : Table → ℕ → Said
+closed t l = onFault (lastFault (tableOf t)) l (accepts t)
 
--- the rows behind those of t, the first of them at line l: the table that they make, or the first refusal
-unfoldable pub checkRows : Table → ℕ → List Row → Read
+-- the given rows behind those of t, the first of them at line l: the table that they make, or the first refusal
+unfoldable pub checkRows : Table → ℕ → List Row → Said
 checkRows t l [] = closed t l
-checkRows t l (r ∷ rs) = onFault (rowFault t r) l (checkRows (addRow t r) (l + 1) rs)
+checkRows t l (r ∷ rs) = onFault (givenFault t r) l (checkRows (addRow t r) (l + 1) rs)
 
 -- the rows of a table: its tasks, activities, codels, edges, mutexes, each in row order
 unfoldable pub rowsFrom : List ℕ → ℕ → ℕ → ℕ → List Row
@@ -73,5 +96,9 @@ abbrev pub rowsOf : Table → List Row
 rowsOf t = kindsFrom t 0 5
 
 -- a given table, checked as its text would be: the answer, and the table that its rows make
-unfoldable pub checkTable : Table → Read
+unfoldable pub checkTable : Table → Said
 checkTable t = checkRows emptyTable 1 (rowsOf t)
+
+-- a given table that the check accepts
+abbrev pub Passes : Table → Type 0
+Passes t = checkTable t .numbers ≡ []

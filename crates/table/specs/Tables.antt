@@ -5,13 +5,13 @@ use mathlib.Core.Bool.{Bool}
 use mathlib.Core.Path.{_≡_}
 use lib.ListN.{length, getD, set, replicate}
 use lib.Seq.{sets}
-use lib.Dec.{ltb, eqb}
+use lib.Dec.{ltb, leb, eqb}
 use Rattle.text.specs.Parts.{pick}
 use Rattle.text.specs.Fields.{etherValue}
 use Rattle.row.specs.Kinds.{mostOf, formOf, noField, aKind, aMode}
 use Rattle.row.specs.declared.Row.{Row}
 use Rattle.model.specs.Tables.{targetOf}
-use Rattle.model.specs.Tests.{_and_, _or_}
+use Rattle.model.specs.Tests.{_and_, _or_, each}
 use Rattle.model.specs.Tables as model
 use Rattle.table.specs.declared.Table.{Table}
 
@@ -65,6 +65,25 @@ fieldOf rows k i j = pick (ltb i (mostOf k)) (shown (formOf k j) (getD rows (slo
 -- row i of a kind
 abbrev pub rowOf : List ℕ → ℕ → ℕ → Row
 rowOf rows k i = record { kind = k; a = fieldOf rows k i 0; b = fieldOf rows k i 1; c = fieldOf rows k i 2 }
+
+-- a stored number that is what is stored of what it says: 0 where there is no field, a codel kind up to `main`, a mode up to `pause`, 32 bits
+unfoldable pub storedOk : ℕ → ℕ → Bool
+storedOk form x =
+    pick (eqb form noField) (eqb x 0)
+    (pick (eqb form aKind) (ltb x 3)
+    (pick (eqb form aMode) (ltb x 2) (leb x etherSlot)))
+
+-- number j of row i of a kind: such a number where the table has that row, else 0
+unfoldable pub numberOk : Table → ℕ → ℕ → ℕ → Bool
+numberOk t k i j =
+    pick (ltb i (getD (t .counts) k 0)) (storedOk (formOf k j) (getD (t .rows) (slotOf k i + j) 0)) (eqb (getD (t .rows) (slotOf k i + j) 0) 0)
+
+-- "So one table has one text.": of the tables that say the same rows, the one that is read from their text
+unfoldable pub canonical : Table → Bool
+canonical t =
+    eqb (length (t .counts)) 5
+    and eqb (length (t .rows)) slots
+    and each 5 (λ k. each (mostOf k) (λ i. each 3 (numberOk t k i)))
 
 -- one row more
 unfoldable pub addRow : Table → Row → Table

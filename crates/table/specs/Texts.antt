@@ -12,11 +12,8 @@ use Rattle.row.specs.declared.Row.{Row}
 use Rattle.row.specs.declared.Line.{Line}
 use Rattle.row.specs.declared.Line.the-variants as line
 use Rattle.table.specs.Tables.{emptyTable, addRow}
-use Rattle.table.specs.Checks.{rowFault, refused, onFault, closed, rowsOf, checkTable}
+use Rattle.table.specs.Checks.{rowFault, Said, refused, onFault, closed, rowsOf, checkTable}
 use Rattle.table.specs.declared.Table.{Table}
-use Rattle.table.specs.declared.Answer.{Answer}
-use Rattle.table.specs.declared.Answer.the-variants.{Fine, Refused}
-use Rattle.table.specs.declared.Read.{Read}
 use Rattle.table.specs.declared.Wrote.{Wrote}
 use Rattle.table.specs.declared.Wrote.the-variants as wrote
 
@@ -28,7 +25,7 @@ abbrev pub isEmpty : List ℕ → Bool
 isEmpty [] = true
 isEmpty (b ∷ bs) = false
 
-abbrev pub onRow : Line → (Row → Read) → Read → Read
+abbrev pub onRow : Line → (Row → Said) → Said → Said
 onRow (line.Is r) go bad = go r
 onRow line.Bad go bad = bad
 
@@ -43,11 +40,11 @@ faultBehind (p ∷ []) = pick (isEmpty p) 0 1
 faultBehind (p ∷ q ∷ ps) = rowBehind (readRow p)
 
 -- 6: "`end` has the wrong count"; 7 comes after the whole text
-abbrev pub atEndRow : Table → ℕ → ℕ → List (List ℕ) → Read
+abbrev pub atEndRow : Table → ℕ → ℕ → List (List ℕ) → Said
 atEndRow t l count ps = pick (eqb count (l - 1)) (onFault (faultBehind ps) (l + 1) (closed t l)) (refused 6 l)
 
 -- the lines from line l on, behind the rows of t. 1: "a last line without newline"; 6: "`end` .. is absent (line: the next one)"
-unfoldable pub readLines : Table → ℕ → List (List ℕ) → Read
+unfoldable pub readLines : Table → ℕ → List (List ℕ) → Said
 readLines t l [] = refused 6 l
 readLines t l (p ∷ []) = pick (isEmpty p) (refused 6 l) (refused 1 l)
 readLines t l (p ∷ q ∷ ps) =
@@ -56,7 +53,7 @@ readLines t l (p ∷ q ∷ ps) =
     (refused 1 l)
 
 -- what a text says as a table
-unfoldable pub readTable : List ℕ → Read
+unfoldable pub readTable : List ℕ → Said
 readTable s = pick (ltb longest (length s)) (refused 3 0) (readLines emptyTable 1 (splitOn 10 s))
 
 -- the text of rows, and after them the `end` row with their number
@@ -71,15 +68,22 @@ textOf n (r ∷ rs) = rowText r ++ textOf n rs
 unfoldable pub tableText : Table → List ℕ
 tableText t = textOf (length (rowsOf t)) (rowsOf t)
 
--- what the writer answers on a buffer of so many bytes: the table's refusal, then 31 "exactly when the text is longer than the lent buffer"
-abbrev pub written : Answer → ℕ → ℕ → Wrote
-written (Refused n l) need have = wrote.Refused n l
-written Fine need have = pick (leb need have) (wrote.Length need) (wrote.Refused 31 0)
+-- what the writer tells on a buffer of so many bytes: the table's refusal, then 31 "exactly when the text is longer than the lent buffer", else
+-- the text's length
+abbrev pub written : List ℕ → ℕ → ℕ → List ℕ
+written [] need have = pick (leb need have) (need ∷ []) (31 ∷ 0 ∷ [])
+written (n ∷ ls) need have = n ∷ ls
 
-unfoldable pub writeTable : Table → ℕ → Wrote
-writeTable t have = written (checkTable t .answer) (length (tableText t)) have
+unfoldable pub writeTable : Table → ℕ → List ℕ
+writeTable t have = written (checkTable t .numbers) (length (tableText t)) have
 
--- "No refusal changes the buffer; after a success the bytes past the text are unchanged."
-abbrev pub writtenOver : Wrote → List ℕ → List ℕ → List ℕ
-writtenOver (wrote.Length n) text buf = sets buf 0 text
-writtenOver (wrote.Refused n l) text buf = buf
+-- the page's number and values for each case of the code's answer: the length alone, or number and line
+abbrev pub wroteNumbers : Wrote → List ℕ
+wroteNumbers (wrote.Length n) = n ∷ []
+wroteNumbers (wrote.Refused n l) = n ∷ l ∷ []
+
+-- "No refusal changes the buffer; after a success the bytes past the text are unchanged.": a success tells one number
+abbrev pub writtenOver : List ℕ → List ℕ → List ℕ → List ℕ
+writtenOver [] text buf = buf
+writtenOver (n ∷ []) text buf = sets buf 0 text
+writtenOver (n ∷ l ∷ ls) text buf = buf

@@ -12,9 +12,9 @@ ghost use Rattle.model.specs.Tests.{_and_, _or_, each, after};
 ghost use Rattle.model.specs.Limits.{inRange, mostTasks, mostActs, mostCodels};
 ghost use Rattle.model.specs.Rows.{taskFault, actFault, codelFault, edgeFault, mutexFault, lastFault, targetOk};
 ghost use Rattle.table.specs.Tables.{slots, made, emptyTable, narrowed, shown, fieldOf, rowOf, pairBelow, addRow, tableOf, totalOf};
-ghost use Rattle.table.specs.Checks.{inPlace, rowFault, kindFault, verdictOf, numberOf, refused, closed, checkTable};
+ghost use Rattle.table.specs.Checks.{inPlace, rowFault, kindFault, verdictOf, numberOf, numbersOf, says, refused, closed, checkTable, Passes};
 ghost use Rattle.table.specs.Marks.{marksLength, kindMark, markOf, marked, Building};
-ghost use Rattle.table.specs.Texts.{readTable, faultBehind, endRow, tableText, written, writeTable, writtenOver};
+ghost use Rattle.table.specs.Texts.{readTable, faultBehind, endRow, tableText, written, writeTable, wroteNumbers, writtenOver};
 use row::Line;
 use row::Row;
 
@@ -30,8 +30,8 @@ const BASES: [usize; 5] = [0, 16, 80, 336, 848];
 // `ether` among the stored numbers.
 pub const ETHER_SLOT: u32 = 4294967295;
 
-// A table by value: how many rows of each kind (tasks, activities, codels, edges, mutexes), and the rows, three numbers each; unused ones
-// are 0.
+// A table by value: how many rows of each kind (tasks, activities, codels, edges, mutexes), and the rows, three numbers each. In a table that
+// was read the unused numbers are 0.
 pub struct Table {
     pub counts: [usize; 5],
     pub rows: [u32; SLOTS],
@@ -473,7 +473,7 @@ fn empty() -> Table
 }
 
 fn refuse(n: u64, line: usize) -> Read
-    ensures { λ r. ⌜ r ≡ refused n line ⌝ }
+    ensures { λ r. ⌜ says r ≡ refused n line ⌝ }
 {
     let table = empty();
     Read {
@@ -485,7 +485,7 @@ fn refuse(n: u64, line: usize) -> Read
 // The table of these rows, closed at a line.
 fn close(rows: [u32; SLOTS], counts: [usize; 5], marks: [u8; MARKS], line: usize) -> Read
     requires { ⌜ Building (made counts rows) marks ⌝ }
-    ensures { λ r. ⌜ r ≡ closed (made counts rows) line ⌝ }
+    ensures { λ r. ⌜ says r ≡ closed (made counts rows) line ⌝ }
 {
     let f = last_fault(&rows, counts, &marks);
     if f != 0 {
@@ -518,7 +518,7 @@ fn behind_end(s: &[u8], at: usize) -> u64
 
 // Reads a table's text: the table, or the number and line of its refusal.
 pub fn read_table(s: &[u8]) -> Read
-    ensures { λ r. ⌜ r ≡ readTable (now (s .entry)) ⌝ }
+    ensures { λ r. ⌜ says r ≡ readTable (now (s .entry)) ⌝ }
 {
     if LONGEST < s.len() {
         return refuse(3, 0);
@@ -558,10 +558,11 @@ pub fn read_table(s: &[u8]) -> Read
     refuse(6, line)
 }
 
-// Checks the rows of a table as the reader checks those of a text, at the lines that they would have there. The table that comes back is the
-// one that the rows make: the given one where its unused numbers are 0.
+// Checks the rows of a table as the reader checks those of a text, at the lines that they would have there; a row that there is no room for
+// is one too many, whatever else is wrong. The table that comes back is the one that the rows make: the given one exactly where that is
+// `canonical`.
 pub fn check_table(t: Table) -> Read
-    ensures { λ r. ⌜ r ≡ checkTable t ⌝ }
+    ensures { λ r. ⌜ says r ≡ checkTable t ⌝ }
 {
     let given = t.rows;
     let have = t.counts;
@@ -576,6 +577,9 @@ pub fn check_table(t: Table) -> Read
             k += 1;
             i = 0;
             continue;
+        }
+        if row::most(k) <= counts[k] {
+            return refuse(3, line);
         }
         let r = row_at(&given, k, i);
         let v = check_row(&rows, counts, &marks, r);
@@ -611,7 +615,7 @@ fn total(counts: [usize; 5]) -> usize
 
 // How long the text of an accepted table is.
 fn text_width(t: Table) -> usize
-    requires { ⌜ checkTable t .answer ≡ Answer.Fine ⌝ }
+    requires { ⌜ Passes t ⌝ }
     ensures { λ n. ⌜ n ≡ length (tableText t) ⌝ }
 {
     let given = t.rows;
@@ -633,7 +637,7 @@ fn text_width(t: Table) -> usize
 
 // Writes the text of an accepted table that fits.
 fn put_table(buf: &mut [u8], t: Table) -> usize
-    requires { ⌜ (checkTable t .answer ≡ Answer.Fine) × (length (tableText t) ≤ length (now buf)) ⌝ }
+    requires { ⌜ Passes t × (length (tableText t) ≤ length (now buf)) ⌝ }
     ensures { λ n. ⌜ (n ≡ length (tableText t)) × (now (buf .exit) ≡ sets (now (buf .entry)) 0 (tableText t)) ⌝ }
 {
     let given = t.rows;
@@ -655,7 +659,7 @@ fn put_table(buf: &mut [u8], t: Table) -> usize
 
 // Writes a table's text into a lent buffer: its length, or the number and line of the refusal, and then no byte is changed.
 pub fn write_table(buf: &mut [u8], t: Table) -> Wrote
-    ensures { λ r. ⌜ (r ≡ writeTable t (length (now (buf .entry)))) × (now (buf .exit) ≡ writtenOver r (tableText t) (now (buf .entry))) ⌝ }
+    ensures { λ r. ⌜ (wroteNumbers r ≡ writeTable t (length (now (buf .entry)))) × (now (buf .exit) ≡ writtenOver (writeTable t (length (now (buf .entry)))) (tableText t) (now (buf .entry))) ⌝ }
 {
     let c = check_table(t);
     let a = c.answer;
@@ -671,7 +675,7 @@ pub fn write_table(buf: &mut [u8], t: Table) -> Wrote
 
 // The writer's answer for a refused table.
 fn not_written(a: Answer) -> Wrote
-    ensures { λ w. ⌜ w ≡ written a 0 0 ⌝ }
+    ensures { λ w. ⌜ wroteNumbers w ≡ written (numbersOf a) 0 0 ⌝ }
 {
     match a {
         Answer::Refused(n, l) => Wrote::Refused(n, l),

@@ -239,9 +239,98 @@ fn show_spoiled() {
     show_count(b"more tasks than there can be", t, 0, 18446744073709551615);
 }
 
+// The three numbers of a row.
+struct Numbers {
+    a: u32,
+    b: u32,
+    c: u32,
+}
+
+// Every fourth codel starts an activity.
+fn codel_row(c: u32) -> Numbers {
+    let a = c / 4;
+    if c % 4 == 0 {
+        return Numbers { a, b: 0, c: 1 };
+    }
+    Numbers { a, b: 2, c: 1 }
+}
+
+// Each codel has an edge to its activity's start and one to ether.
+fn edge_row(e: u32) -> Numbers {
+    let a = e / 2;
+    if e % 2 == 0 {
+        return Numbers {
+            a,
+            b: a / 4 * 4,
+            c: 0,
+        };
+    }
+    Numbers {
+        a,
+        b: table::ETHER_SLOT,
+        c: 0,
+    }
+}
+
+// Row n of the largest table, counted through all kinds: four activities a task, four codels an activity, two edges a codel, and a conflict
+// of each of the first 32 codels with 16 codels of another task.
+fn largest_row(n: u32) -> Numbers {
+    if n < 16 {
+        return Numbers { a: 10, b: 5, c: 0 };
+    }
+    if n < 80 {
+        return Numbers {
+            a: (n - 16) / 4,
+            b: 0,
+            c: 0,
+        };
+    }
+    if n < 336 {
+        return codel_row(n - 80);
+    }
+    if n < 848 {
+        return edge_row(n - 336);
+    }
+    let m = n - 848;
+    Numbers {
+        a: m / 16,
+        b: 64 + m % 16,
+        c: 0,
+    }
+}
+
+// The table with as many rows of each kind as there may be.
+fn largest() -> Table {
+    let counts = [16usize, 64, 256, 512, 512];
+    let mut rows = [0u32; 4080];
+    let mut n = 0;
+    while n < 1360 {
+        let r = largest_row(n);
+        let p = 3 * (n as usize);
+        rows[p] = r.a;
+        rows[p + 1] = r.b;
+        rows[p + 2] = r.c;
+        n += 1;
+    }
+    Table { counts, rows }
+}
+
+// One row too many of each kind, though it has no numbers: 3 at its line.
+fn show_full() {
+    let t = largest();
+    show_row(b"the largest table", t, 0, 10);
+    show_row(b"a codel kind past main is written as main", t, 244, 5);
+    show_count(b"a seventeenth task given", t, 0, 17);
+    show_count(b"a sixty-fifth activity given", t, 1, 65);
+    show_count(b"a codel past 256 given", t, 2, 257);
+    show_count(b"an edge past 512 given", t, 3, 513);
+    show_count(b"a mutex past 512 given", t, 4, 513);
+}
+
 fn main() {
     let mut buf = io::large_buffer();
     let n = io::read_full(0, &mut buf);
     show_cases(&buf[..n]);
     show_spoiled();
+    show_full();
 }

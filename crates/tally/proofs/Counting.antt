@@ -1,13 +1,10 @@
--- The numbers of a `sum` row, and whether counts can grow: one law for each answer, over plain variables.
-use Prim.Native.Nat.{ℕ, zero, suc, _+_, _-_, _≤_, _<_, max}
-use mathlib.Core.Path.{_≡_, refl, sym}
+-- The numbers of a `sum` row: one law for each answer, over plain variables.
+use Prim.Native.Nat.{ℕ, zero, suc, _+_, _≤_, max}
+use mathlib.Core.Path.{_≡_, refl}
 use mathlib.Core.List.{List, [], _∷_}
-use mathlib.Core.Bool.{Bool, true, false}
+use mathlib.Core.Bool.{true, false}
 use native.Mathlib.Omega.{arith}
 use native.Mathlib.Numerals.{add-one}
-use lib.Dec.{leb}
-use borrow.Author.Tests.{le-leb, leb-true}
-use Rattle.text.proofs.Picks.{false-true}
 use Rattle.model.specs.Tests.{one, sum}
 use Rattle.model.specs.States.{taskAt}
 use Rattle.model.specs.Tables.{Table}
@@ -16,7 +13,7 @@ use Rattle.model.specs.declared.State.{State}
 use Rattle.prepared.specs.Prepared.{tableIn, Prepared}
 use Rattle.prepared.proofs.Stored.{most-tasks}
 use Rattle.report.specs.Rows.{sumNumbers}
-use Rattle.tally.specs.Tallies.{mostCount, Roomy, sumOf}
+use Rattle.tally.specs.Tallies.{sumOf}
 use Rattle.tally.specs.declared.Tally.{Tally}
 
 -- the line of a refusal
@@ -56,45 +53,3 @@ module _ (s : State) (n t : ℕ) (now : n ≡ counted s t) where
   pub counted-all : (K : Table) (m : ℕ) → m ≡ K .ntasks → t ≤ m → m ≤ t → n ≡ managing K s
   unfolding managing
   counted-all K m e h l = let q : t ≡ K .ntasks = omega arith in rw q at now
-
--- a test that says whether each count can grow
-abbrev pub Grows : Bool → Tally → ℕ → Type 0
-Grows r c n = (r ≡ true → Roomy c n) × (Roomy c n → r ≡ true)
-
-module _ (c : Tally) (n : ℕ) where
-  grows-not : (Roomy c n → ⊥) → Grows false c n
-  grows-not h = (λ e. absurd (false-true e), λ r. absurd (h r))
-
-  -- more than any count may come to
-  pub grows-over : mostCount < n → Grows false c n
-  grows-over h = grows-not (λ r. omega (arith, r .steps))
-
-  -- one count is too large already
-  module _ (l : n ≤ mostCount) where
-    pub grows-steps : mostCount - n < c .steps → Grows false c n
-    grows-steps h = grows-not (λ r. omega (arith, r .steps))
-
-    pub grows-opened : mostCount - n < c .opened → Grows false c n
-    grows-opened h = grows-not (λ r. omega (arith, r .opened))
-
-    pub grows-kept : mostCount - n < c .kept → Grows false c n
-    grows-kept h = grows-not (λ r. omega (arith, r .kept))
-
-    pub grows-dropped : mostCount - n < c .dropped → Grows false c n
-    grows-dropped h = grows-not (λ r. omega (arith, r .dropped))
-
-    -- only the last is left to ask
-    pub grows-since : c .steps ≤ mostCount - n → c .opened ≤ mostCount - n → c .kept ≤ mostCount - n → c .dropped ≤ mostCount - n
-        → Grows (leb (c .since) (mostCount - n)) c n
-    grows-since a b d e = (
-      λ t.
-          let f : c .since ≤ mostCount - n = leb-true (c .since) (mostCount - n) t in
-          record { steps = omega arith; opened = omega arith; kept = omega arith; dropped = omega arith; since = omega arith },
-      λ r. le-leb (c .since) (mostCount - n) (omega (arith, r .since)),
-    )
-
--- two answers that such a test gives are equal
-pub grow-unique : {c : Tally} {n : ℕ} {r₁ r₂ : Bool} → Grows r₁ c n → Grows r₂ c n → r₁ ≡ r₂
-grow-unique {r₁ = true} h k = sym (k .1 (h .0 refl))
-grow-unique {r₁ = false} {r₂ = true} h k = h .1 (k .0 refl)
-grow-unique {r₁ = false} {r₂ = false} h k = refl

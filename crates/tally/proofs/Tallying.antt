@@ -4,15 +4,15 @@ use mathlib.Core.Bool.{Bool, true, false}
 use mathlib.Core.Path.{_≡_, refl}
 use native.Mathlib.Omega.{arith}
 use native.Mathlib.Nat.{add-zero}
-use lib.Dec.{T}
 use Rattle.model.specs.Tables.{Table}
 use Rattle.model.specs.States.{taskAt}
 use Rattle.model.specs.Logs.{isWait}
 use Rattle.model.specs.Cycles.{Verdict, none, kept, dropped, verdict, keeps, opens}
 use Rattle.model.specs.declared.State.{State}
+use Rattle.model.specs.declared.TaskStep.{TaskStep}
+use Rattle.model.specs.declared.TaskStep.the-variants.{St, Fm}
 use Rattle.model.specs.declared.Step.{Step}
-use Rattle.model.specs.declared.Step.the-variants.{Wait, St, Sm, Lm, Ia, Ea, Cx, Fa, Fm}
-use Rattle.rules.specs.Local.{taskIn, ofAct}
+use Rattle.model.specs.declared.Step.the-variants.{Wait, Sm, OfTask}
 use Rattle.tally.specs.Tallies.{rulingOf, counted, tallied, afterWait, afterSm, afterStep, ruledBy, rulingBy, Roomy}
 use Rattle.tally.specs.declared.Tally.{Tally}
 use Rattle.tally.specs.declared.Ruling.{Ruling}
@@ -20,35 +20,15 @@ use Rattle.tally.specs.declared.Ruling.the-variants.{Open, Kept, Dropped
 
 -- the verdict told by the task's record
 module _ (K : Table) (s : State) where
-  closes : (t : ℕ) (b : Bool) → keeps K s t ≡ b → ruledBy K t (s .date) (taskAt s t) ≡ rulingOf (verdict K s (Fm t))
+  closes : (t : ℕ) (b : Bool) → keeps K s t ≡ b → ruledBy K t (s .date) (taskAt s t) ≡ rulingOf (verdict K s (OfTask t Fm))
   unfolding verdict
   closes t true e = rw e
   closes t false e = rw e
 
-  pub ruling-is : (x : Step) → rulingBy K x (s .date) (taskAt s (taskIn K x)) ≡ rulingOf (verdict K s x)
+  pub ruling-is : (t : ℕ) (k : TaskStep) → rulingBy K t k (s .date) (taskAt s t) ≡ rulingOf (verdict K s (OfTask t k))
   unfolding verdict
-  ruling-is (Wait d) = refl
-  ruling-is (St t) = refl
-  ruling-is (Sm t n r) = refl
-  ruling-is (Lm t a) = refl
-  ruling-is (Ia a) = refl
-  ruling-is (Ea a c) = refl
-  ruling-is (Cx a) = refl
-  ruling-is (Fa a p) = refl
-  ruling-is (Fm t) = closes t (keeps K s t) refl
-
-  -- a step of an activity gives none
-  pub act-open : (x : Step) → T (ofAct x) → Open ≡ rulingOf (verdict K s x)
-  unfolding verdict
-  act-open (Wait d) l = absurd l
-  act-open (St t) l = absurd l
-  act-open (Sm t n r) l = absurd l
-  act-open (Lm t a) l = refl
-  act-open (Ia a) l = refl
-  act-open (Ea a c) l = refl
-  act-open (Cx a) l = refl
-  act-open (Fa a p) l = refl
-  act-open (Fm t) l = absurd l
+  ruling-is t St = refl
+  ruling-is t Fm = closes t (keeps K s t) refl
 
   -- the tally after a step, by its kind
   module _ (c : Tally) where

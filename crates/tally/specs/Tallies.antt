@@ -8,8 +8,9 @@ use Rattle.model.specs.Logs.{isWait}
 use Rattle.model.specs.Cycles.{SumRow, managing, lineOf, Verdict, none, kept, dropped, verdict, opens, drops}
 use Rattle.model.specs.declared.State.{State}
 use Rattle.model.specs.declared.Task.{Task}
+use Rattle.model.specs.declared.TaskStep.{TaskStep}
+use Rattle.model.specs.declared.TaskStep.the-variants.{St, Fm}
 use Rattle.model.specs.declared.Step.{Step}
-use Rattle.model.specs.declared.Step.the-variants.{Wait, St, Sm, Lm, Ia, Ea, Cx, Fa, Fm}
 use Rattle.report.specs.Rows.{cycleOf}
 use Rattle.report.specs.declared.Cycle.{Cycle}
 use Rattle.tally.specs.declared.Tally.{Tally}
@@ -66,16 +67,9 @@ closedBy t date x = record { task = t; cycle = x .cycle; opened = x .opened; clo
 abbrev pub ruledBy : Table → ℕ → ℕ → Task → Ruling
 ruledBy K t date x = pick (leb (K .keep t) (date - x .opened) or leb 1 (x .missed)) (Kept (closedBy t date x)) Dropped
 
-abbrev pub rulingBy : Table → Step → ℕ → Task → Ruling
-rulingBy K (Wait d) date x = Open
-rulingBy K (St t) date x = Open
-rulingBy K (Sm t n r) date x = Open
-rulingBy K (Lm t a) date x = Open
-rulingBy K (Ia a) date x = Open
-rulingBy K (Ea a c) date x = Open
-rulingBy K (Cx a) date x = Open
-rulingBy K (Fa a p) date x = Open
-rulingBy K (Fm t) date x = ruledBy K t date x
+abbrev pub rulingBy : Table → ℕ → TaskStep → ℕ → Task → Ruling
+rulingBy K t St date x = Open
+rulingBy K t Fm date x = ruledBy K t date x
 
 -- the most a count may come to
 abbrev pub mostCount : ℕ

@@ -1,20 +1,14 @@
 // The tally of a run, the verdicts on its cycles, and the numbers of the `sum` row.
 ghost use mathlib.Core.Path.{_≡_};
-ghost use mathlib.Core.Bool.{true};
 ghost use Prim.Native.Nat.{_<_, _≤_};
-ghost use lib.Dec.{T};
 ghost use Rattle.model.specs.Cycles.{managing, lineOf};
 ghost use Rattle.report.specs.Rows.{sumNumbers};
 ghost use Rattle.prepared.specs.Prepared.{tableIn, Prepared};
-ghost use Rattle.rules.specs.Local.{named};
 ghost use Rattle.tally.specs.Tallies.{ruledBy, rulingBy, afterWait, afterSm, afterStep, mostCount, Roomy, sumOf};
 use model::State;
-use model::Step;
 use model::Task;
+use model::TaskStep;
 use report::Cycle;
-
-// The most that a count may come to.
-const MOST_COUNT: u64 = 9223372036854775808;
 
 // What is counted beside a run: accepted steps, cycles opened, kept and dropped, the steps since the last wait, and the most of the
 // stretches that a wait has ended.
@@ -56,15 +50,15 @@ fn ruled(rows: &[u32], index: &[u32], t: usize, date: u64, x: Task) -> Ruling
     Ruling::Dropped
 }
 
-// The verdict that an accepted step gives: only `fm` gives one.
-pub fn ruling_of(rows: &[u32], index: &[u32], st: Step, date: u64, x: Task) -> Ruling
-    requires { ⌜ Prepared (now rows) (now index) × T (named (tableIn (now rows) (now index)) st) × (x .opened ≤ date) ⌝ }
-    ensures { λ r. ⌜ r ≡ rulingBy (tableIn (now (rows .entry)) (now (index .entry))) st date x ⌝ }
+// The verdict that an accepted step of a task gives: only `fm` gives one.
+pub fn ruling_of(rows: &[u32], index: &[u32], t: usize, k: TaskStep, date: u64, x: Task) -> Ruling
+    requires { ⌜ Prepared (now rows) (now index) × (t < tableIn (now rows) (now index) .ntasks) × (x .opened ≤ date) ⌝ }
+    ensures { λ r. ⌜ r ≡ rulingBy (tableIn (now (rows .entry)) (now (index .entry))) t k date x ⌝ }
 {
-    let Step::Fm(t) = st else {
-        return Ruling::Open;
-    };
-    ruled(rows, index, t, date, x)
+    match k {
+        TaskStep::St => Ruling::Open,
+        TaskStep::Fm => ruled(rows, index, t, date, x),
+    }
 }
 
 // The tally after a wait: a stretch ends.
@@ -113,30 +107,6 @@ pub fn after_step(c: Tally, w: Ruling) -> Tally
             d
         }
     }
-}
-
-// Can each count still grow by n?
-pub fn may_grow(c: Tally, n: usize) -> bool
-    ensures { λ r. ⌜ (r ≡ true → Roomy c n) × (Roomy c n → r ≡ true) ⌝ }
-{
-    let more = n as u64;
-    if MOST_COUNT < more {
-        return false;
-    }
-    let most = MOST_COUNT - more;
-    if most < c.steps {
-        return false;
-    }
-    if most < c.opened {
-        return false;
-    }
-    if most < c.kept {
-        return false;
-    }
-    if most < c.dropped {
-        return false;
-    }
-    c.since <= most
 }
 
 // How many tasks manage.

@@ -5,3 +5,4 @@ pub mod Set
 pub mod Words
 pub mod Fields
 pub mod Put
+pub mod Quoted

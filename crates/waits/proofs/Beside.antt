@@ -14,14 +14,16 @@ use Rattle.model.specs.Rules.{noneIn}
 use Rattle.model.specs.declared.State.{State}
 use Rattle.model.specs.declared.Place.{Place}
 use Rattle.model.specs.declared.Place.the-variants.{Ether, Codel}
-use Rattle.model.specs.declared.Step.{Step}
-use Rattle.model.specs.declared.Step.the-variants.{Wait, St, Sm, Lm, Ia, Ea, Cx, Fa, Fm}
+use Rattle.model.specs.declared.TaskStep.{TaskStep}
+use Rattle.model.specs.declared.TaskStep.the-variants.{St, Fm}
+use Rattle.model.specs.declared.ActStep.{ActStep}
+use Rattle.model.specs.declared.ActStep.the-variants.{Lm, Ia, Ea, Cx, Fa}
 use Rattle.model.proofs.Tests.{same-test, and-i, and-l, and-r, or-l, or-r, or-cases, imp-i, imp-e, each-at, each-mk, some-at, some-mk}
 use Rattle.model.proofs.Formed.{Formed}
 use Rattle.model.proofs.Soundness.{Sound, executing-at}
 use Rattle.table.proofs.Tests.{each-same}
 use Rattle.prepared.specs.Prepared.{conflict}
-use Rattle.rules.specs.Local.{actIn, clearFor, emptyFor}
+use Rattle.rules.specs.Local.{clearFor, emptyFor}
 use Rattle.waits.specs.Beside.{noCodel, busyAt, busyOf, listedOf, busyIn, listedIn, farFrom, clearBy, clearByAt, noneBy, clearForBy, emptyForBy}
 
 -- a row set before or after the map
@@ -113,24 +115,13 @@ none-by K s t = each-same _ _ (K .nacts) (λ a h. rw (listed-at s a) (neither (e
     neither false x = refl
 
 -- what `cx` and `fm` ask beside the records
-pub clear-for-by : (K : Table) (F : Formed K) (s : State) (S : Sound K s) (x : Step) → clearForBy K (busyIn s) x (actAt s (actIn x) .place) ≡ clearFor K s x
-clear-for-by K F s S (Wait d) = refl
-clear-for-by K F s S (St t) = refl
-clear-for-by K F s S (Sm t n r) = refl
-clear-for-by K F s S (Lm t a) = refl
-clear-for-by K F s S (Ia a) = refl
-clear-for-by K F s S (Ea a c) = refl
-clear-for-by K F s S (Cx a) = clear-by-at K F s S (actAt s a .place)
-clear-for-by K F s S (Fa a p) = refl
-clear-for-by K F s S (Fm t) = refl
+pub clear-for-by : (K : Table) (F : Formed K) (s : State) (S : Sound K s) (a : ℕ) (k : ActStep) → clearForBy K (busyIn s) k (actAt s a .place) ≡ clearFor K s a k
+clear-for-by K F s S a (Lm t) = refl
+clear-for-by K F s S a Ia = refl
+clear-for-by K F s S a (Ea p) = refl
+clear-for-by K F s S a Cx = clear-by-at K F s S (actAt s a .place)
+clear-for-by K F s S a (Fa p) = refl
 
-pub empty-for-by : (K : Table) (s : State) (x : Step) → emptyForBy K (listedIn s) x ≡ emptyFor K s x
-empty-for-by K s (Wait d) = refl
-empty-for-by K s (St t) = refl
-empty-for-by K s (Sm t n r) = refl
-empty-for-by K s (Lm t a) = refl
-empty-for-by K s (Ia a) = refl
-empty-for-by K s (Ea a c) = refl
-empty-for-by K s (Cx a) = refl
-empty-for-by K s (Fa a p) = refl
-empty-for-by K s (Fm t) = none-by K s t
+pub empty-for-by : (K : Table) (s : State) (t : ℕ) (k : TaskStep) → emptyForBy K (listedIn s) t k ≡ emptyFor K s t k
+empty-for-by K s t St = refl
+empty-for-by K s t Fm = none-by K s t

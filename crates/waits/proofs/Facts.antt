@@ -16,12 +16,13 @@ use Rattle.model.specs.Sound.{atOwn, clockOk}
 use Rattle.model.specs.declared.State.{State}
 use Rattle.model.specs.declared.Place.{Place}
 use Rattle.model.specs.declared.Place.the-variants.{Ether, Codel}
-use Rattle.model.specs.declared.Step.{Step}
-use Rattle.model.specs.declared.Step.the-variants.{Wait, St, Sm, Lm, Ia, Ea, Cx, Fa, Fm}
+use Rattle.model.specs.declared.ActStep.{ActStep}
+use Rattle.model.specs.declared.ActStep.the-variants.{Lm, Ia, Ea, Cx, Fa}
 use Rattle.model.proofs.Tests.{true-T, and-l, and-r, each-at, some-at, need-of}
 use Rattle.model.proofs.Formed.{Formed, formed}
 use Rattle.model.proofs.Soundness.{Sound, fine-at, task-at}
-use Rattle.rules.specs.Local.{named, taskIn, actIn}
+use Rattle.rules.specs.Local.{naming, taskIn}
+use Rattle.rules.proofs.Named.{act-there}
 
 -- an activity's own place is known
 own-known : (K : Table) (a : ℕ) (p : Place) → T (atOwn K a p) → T (known K p)
@@ -69,7 +70,7 @@ module _ (K : Table) (F : Formed K) (s : State) (S : Sound K s) where
 
 -- the rows of a well-formed table
 module _ (K : Table) (wf : wellformed K ≡ true) where
-  -- rule 7 at the last row: there is a task, and each has an activity
+  -- rule 7 at the last row: each task has an activity
   last : T (leb 1 (K .ntasks) and each (K .ntasks) (hasAct K) and each (K .nacts) (hasStart K) and each (K .ncodels) (leaves K))
   unfolding wellformed lastFault
   last =
@@ -79,38 +80,16 @@ module _ (K : Table) (wf : wellformed K ≡ true) where
       let mutex = and-r (each (K .nedges) (edgeFine K)) _ edge in
       need-of (leb 1 (K .ntasks) and each (K .ntasks) (hasAct K) and each (K .nacts) (hasStart K) and each (K .ncodels) (leaves K)) 7 0 tt (eqb→eq (lastFault K) 0 (and-r (each (K .nmutex) (mutexFine K)) _ mutex)) .0
 
-  pub some-task : 0 < K .ntasks
-  some-task = leb→le 1 (K .ntasks) (and-l (leb 1 (K .ntasks)) _ last)
-
   pub act-of : (t : ℕ) → t < K .ntasks → (a : ℕ) × (a < K .nacts) × (K .task a ≡ t)
   act-of t h =
       let w = some-at (λ a. eqb (K .task a) t) (K .nacts) (each-at (hasAct K) (K .ntasks) (and-l (each (K .ntasks) (hasAct K)) _ (and-r (leb 1 (K .ntasks)) _ last)) t h) in
       (w .0, w .1, eqb→eq _ _ (w .2))
 
-  pub some-act : 0 < K .nacts
-  some-act = omega (arith, act-of 0 some-task .1)
-
-  -- a step's task and activity have rows
-  pub act-in : (x : Step) → T (named K x) → actIn x < K .nacts
-  unfolding named
-  act-in (Wait d) h = some-act
-  act-in (St t) h = some-act
-  act-in (Sm t n r) h = some-act
-  act-in (Lm t a) h = ltb→lt _ _ (and-r (ltb t (K .ntasks)) _ h)
-  act-in (Ia a) h = ltb→lt _ _ h
-  act-in (Ea a c) h = ltb→lt _ _ (and-l (ltb a (K .nacts)) _ h)
-  act-in (Cx a) h = ltb→lt _ _ h
-  act-in (Fa a p) h = ltb→lt _ _ (and-l (ltb a (K .nacts)) _ h)
-  act-in (Fm t) h = some-act
-
-  pub task-in : (x : Step) → T (named K x) → taskIn K x < K .ntasks
-  unfolding named
-  task-in (Wait d) h = some-task
-  task-in (St t) h = ltb→lt _ _ h
-  task-in (Sm t n r) h = ltb→lt _ _ h
-  task-in (Lm t a) h = ltb→lt _ _ (and-l (ltb t (K .ntasks)) _ h)
-  task-in (Ia a) h = formed K (true-T _ wf) .task a (act-in (Ia a) h)
-  task-in (Ea a c) h = formed K (true-T _ wf) .task a (act-in (Ea a c) h)
-  task-in (Cx a) h = formed K (true-T _ wf) .task a (act-in (Cx a) h)
-  task-in (Fa a p) h = formed K (true-T _ wf) .task a (act-in (Fa a p) h)
-  task-in (Fm t) h = ltb→lt _ _ h
+  -- the task whose record an activity's step touches has a row
+  pub task-there : (a : ℕ) (k : ActStep) → naming K a k ≡ 0 → taskIn K a k < K .ntasks
+  unfolding naming
+  task-there a (Lm t) h = ltb→lt _ _ (and-l (ltb t (K .ntasks)) _ (need-of (ltb t (K .ntasks) and ltb a (K .nacts)) 12 0 tt h .0))
+  task-there a Ia h = formed K (true-T _ wf) .task a (act-there K a Ia h)
+  task-there a (Ea p) h = formed K (true-T _ wf) .task a (act-there K a (Ea p) h)
+  task-there a Cx h = formed K (true-T _ wf) .task a (act-there K a Cx h)
+  task-there a (Fa p) h = formed K (true-T _ wf) .task a (act-there K a (Fa p) h)

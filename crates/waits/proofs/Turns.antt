@@ -1,11 +1,11 @@
 -- One law for each way through the code, in the shape of what is known there.
 use mathlib.Core.Bool.{Bool, true, false, not}
 use mathlib.Core.List.{List, [], _∷_}
-use mathlib.Core.Path.{_≡_, refl, ap, sym, subst, _∙_}
+use mathlib.Core.Path.{_≡_, refl, ap, sym, _∙_}
 use Prim.Native.Nat.{ℕ, zero, suc, _+_, _*_, _%_, _^_, _≤_, _<_}
 use native.Mathlib.Omega.{arith}
 use native.Mathlib.Numerals.{add-one}
-use lib.Dec.{T, eqb, ltb, ltb→lt}
+use lib.Dec.{eqb, ltb}
 use lib.ListN.{length, getD}
 use lib.Pow.{pow-pos, shl-exact}
 use mir.Syntax.{w64}
@@ -17,13 +17,12 @@ use Rattle.model.specs.Rules.{within}
 use Rattle.model.specs.declared.Act.{Act}
 use Rattle.model.specs.declared.Place.{Place}
 use Rattle.model.specs.declared.Place.the-variants.{Ether, Codel}
-use Rattle.model.specs.declared.Step.{Step}
-use Rattle.model.specs.declared.Step.the-variants.{Fm}
+use Rattle.model.specs.declared.TaskStep.{TaskStep}
+use Rattle.model.specs.declared.ActStep.{ActStep}
 use Rattle.table.proofs.Tests.{each-fails, each-same, each-not}
 use Rattle.prepared.specs.Prepared.{tableIn, beginOf, endOf, actsAt, Prepared, conflict}
 use Rattle.prepared.proofs.Stored.{most-acts}
 use Rattle.prepared.proofs.Walks.{Passed, found, absent}
-use Rattle.rules.specs.Local.{named}
 use Rattle.waits.specs.Beside.{noCodel, busyOf, farFrom, clearBy, clearByAt, noneBy, clearForBy, emptyForBy}
 use Rattle.waits.proofs.Facts.{act-of}
 use Rattle.waits.proofs.Bits.{within-low, within-range}
@@ -118,15 +117,11 @@ module _ {rows index : List ℕ} (P : Prepared rows index) (listed : List ℕ) (
       rw (none-some (tableIn rows index) listed t, ← q)
 
 -- what a step asks beside its records, by its kind
-pub clear-is : (K : Table) (busy : List ℕ) (x z : Step) (p : Place) (r : Bool) → x ≡ z → r ≡ clearForBy K busy z p → r ≡ clearForBy K busy x p
-clear-is K busy x z p r e q = rw e q
+pub clear-is : (K : Table) (busy : List ℕ) (k z : ActStep) (p : Place) (r : Bool) → k ≡ z → r ≡ clearForBy K busy z p → r ≡ clearForBy K busy k p
+clear-is K busy k z p r e q = rw e q
 
-pub empty-is : (K : Table) (listed : List ℕ) (x z : Step) (r : Bool) → x ≡ z → r ≡ emptyForBy K listed z → r ≡ emptyForBy K listed x
-empty-is K listed x z r e q = rw e q
-
-pub fm-task : (K : Table) (x : Step) (t : ℕ) → T (named K x) → x ≡ Fm t → t < K .ntasks
-unfolding named
-fm-task K x t h e = ltb→lt t (K .ntasks) (subst (λ w. T (named K w)) e h)
+pub empty-is : (K : Table) (listed : List ℕ) (t : ℕ) (k z : TaskStep) (r : Bool) → k ≡ z → r ≡ emptyForBy K listed t z → r ≡ emptyForBy K listed t k
+empty-is K listed t k z r e q = rw e q
 
 -- a power of two that fits
 pub power-is : (k : ℕ) → k < 64 → 1 * 2 ^ k % 2 ^ 64 ≡ 2 ^ k

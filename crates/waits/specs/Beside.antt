@@ -11,8 +11,10 @@ use Rattle.model.specs.declared.Act.{Act}
 use Rattle.model.specs.declared.State.{State}
 use Rattle.model.specs.declared.Place.{Place}
 use Rattle.model.specs.declared.Place.the-variants.{Ether, Codel}
-use Rattle.model.specs.declared.Step.{Step}
-use Rattle.model.specs.declared.Step.the-variants.{Wait, St, Sm, Lm, Ia, Ea, Cx, Fa, Fm}
+use Rattle.model.specs.declared.TaskStep.{TaskStep}
+use Rattle.model.specs.declared.TaskStep.the-variants.{St, Fm}
+use Rattle.model.specs.declared.ActStep.{ActStep}
+use Rattle.model.specs.declared.ActStep.the-variants.{Lm, Ia, Ea, Cx, Fa}
 use Rattle.prepared.specs.Prepared.{conflict}
 
 -- no codel has this number
@@ -55,25 +57,14 @@ unfoldable pub noneBy : Table → List ℕ → ℕ → Bool
 noneBy K listed t = each (K .nacts) (λ a. eqb (K .task a) t implies eqb (getD listed a 0) 0)
 
 -- what `cx` of an activity at the place p asks beside the records
-abbrev pub clearForBy : Table → List ℕ → Step → Place → Bool
-clearForBy K busy (Wait d) p = true
-clearForBy K busy (St t) p = true
-clearForBy K busy (Sm t n r) p = true
-clearForBy K busy (Lm t a) p = true
-clearForBy K busy (Ia a) p = true
-clearForBy K busy (Ea a c) p = true
-clearForBy K busy (Cx a) p = clearByAt K busy p
-clearForBy K busy (Fa a q) p = true
-clearForBy K busy (Fm t) p = true
+abbrev pub clearForBy : Table → List ℕ → ActStep → Place → Bool
+clearForBy K busy (Lm t) p = true
+clearForBy K busy Ia p = true
+clearForBy K busy (Ea q) p = true
+clearForBy K busy Cx p = clearByAt K busy p
+clearForBy K busy (Fa q) p = true
 
--- what `fm` asks beside the record
-abbrev pub emptyForBy : Table → List ℕ → Step → Bool
-emptyForBy K listed (Wait d) = true
-emptyForBy K listed (St t) = true
-emptyForBy K listed (Sm t n r) = true
-emptyForBy K listed (Lm t a) = true
-emptyForBy K listed (Ia a) = true
-emptyForBy K listed (Ea a c) = true
-emptyForBy K listed (Cx a) = true
-emptyForBy K listed (Fa a p) = true
-emptyForBy K listed (Fm t) = noneBy K listed t
+-- what `fm` of the task t asks beside the record
+abbrev pub emptyForBy : Table → List ℕ → ℕ → TaskStep → Bool
+emptyForBy K listed t St = true
+emptyForBy K listed t Fm = noneBy K listed t

@@ -9,12 +9,12 @@ ghost use Rattle.model.specs.Limits.{inRange, mostTicks, ceiling};
 ghost use Rattle.model.specs.Tables.{known};
 ghost use Rattle.model.specs.Rules.{within};
 ghost use Rattle.prepared.specs.Prepared.{tableIn, Prepared};
-ghost use Rattle.rules.specs.Local.{named};
 ghost use Rattle.waits.specs.Beside.{busyOf, listedOf, clearBy, clearByAt, noneBy, clearForBy, emptyForBy};
 ghost use Rattle.waits.specs.Waits.{actHinders, actRoom, timerRoom};
 use model::Act;
+use model::ActStep;
 use model::Place;
-use model::Step;
+use model::TaskStep;
 
 // The number of an activity's codel where it executes none.
 const NO_CODEL: usize = model::MOST_CODELS;
@@ -94,38 +94,27 @@ fn none_listed(rows: &[u32], index: &[u32], listed: &[usize], t: usize) -> bool
 }
 
 // What `cx` of an activity at a place asks beside the records: is no conflicting codel executing? Other steps ask nothing.
-pub fn is_clear_for(rows: &[u32], index: &[u32], busy: &[usize], st: Step, p: Place) -> bool
+pub fn is_clear_for(rows: &[u32], index: &[u32], busy: &[usize], k: ActStep, p: Place) -> bool
     requires { ⌜ Prepared (now rows) (now index) × T (known (tableIn (now rows) (now index)) p) × (tableIn (now rows) (now index) .nacts ≤ length (now busy)) ⌝ }
-    ensures { λ r. ⌜ r ≡ clearForBy (tableIn (now (rows .entry)) (now (index .entry))) (now (busy .entry)) st p ⌝ }
+    ensures { λ r. ⌜ r ≡ clearForBy (tableIn (now (rows .entry)) (now (index .entry))) (now (busy .entry)) k p ⌝ }
 {
-    match st {
-        Step::Wait(_) => true,
-        Step::St(_) => true,
-        Step::Sm(_, _, _) => true,
-        Step::Lm(_, _) => true,
-        Step::Ia(_) => true,
-        Step::Ea(_, _) => true,
-        Step::Cx(_) => is_clear_at(rows, index, busy, p),
-        Step::Fa(_, _) => true,
-        Step::Fm(_) => true,
+    match k {
+        ActStep::Lm(_) => true,
+        ActStep::Ia => true,
+        ActStep::Ea(_) => true,
+        ActStep::Cx => is_clear_at(rows, index, busy, p),
+        ActStep::Fa(_) => true,
     }
 }
 
 // What `fm` asks beside the record: are N and R of its task empty? Other steps ask nothing.
-pub fn is_empty_for(rows: &[u32], index: &[u32], listed: &[usize], st: Step) -> bool
-    requires { ⌜ Prepared (now rows) (now index) × T (named (tableIn (now rows) (now index)) st) × (tableIn (now rows) (now index) .nacts ≤ length (now listed)) ⌝ }
-    ensures { λ r. ⌜ r ≡ emptyForBy (tableIn (now (rows .entry)) (now (index .entry))) (now (listed .entry)) st ⌝ }
+pub fn is_empty_for(rows: &[u32], index: &[u32], listed: &[usize], t: usize, k: TaskStep) -> bool
+    requires { ⌜ Prepared (now rows) (now index) × (t < tableIn (now rows) (now index) .ntasks) × (tableIn (now rows) (now index) .nacts ≤ length (now listed)) ⌝ }
+    ensures { λ r. ⌜ r ≡ emptyForBy (tableIn (now (rows .entry)) (now (index .entry))) (now (listed .entry)) t k ⌝ }
 {
-    match st {
-        Step::Wait(_) => true,
-        Step::St(_) => true,
-        Step::Sm(_, _, _) => true,
-        Step::Lm(_, _) => true,
-        Step::Ia(_) => true,
-        Step::Ea(_, _) => true,
-        Step::Cx(_) => true,
-        Step::Fa(_, _) => true,
-        Step::Fm(t) => none_listed(rows, index, listed, t),
+    match k {
+        TaskStep::St => true,
+        TaskStep::Fm => none_listed(rows, index, listed, t),
     }
 }
 

@@ -1,14 +1,8 @@
 -- `flag` meets its contract.
 use borrow.Author.Needs.{needs}
-use Rattle.engine.proofs.Answers.{flag-is, flag-none}
+use Rattle.engine.proofs.Answers.{flag-is}
 use Rattle.engine.proofs.flag.Statement.{statement}
 use Rattle.engine.proofs.flag.Tie as tie
-
-enum-known-st : tie.Need-enum-known-st
-enum-known-st c = search needs
-
-returns : tie.Need-returns
-returns c = search flag-none
 
 has-bit-requires : tie.Need-has-bit-requires
 has-bit-requires c κs = search needs
@@ -19,16 +13,8 @@ has-bit-requires-2 c κs = search needs
 with-flags-requires : tie.Need-with-flags-requires
 with-flags-requires c κs = search needs
 
-returns-2 : tie.Need-returns-2
-returns-2 c = search flag-is
+returns : tie.Need-returns
+returns c = search flag-is
 
 pub flag-spec : {M : Type 1} → statement M
-flag-spec =
-    tie.close
-    (tie.spec
-    enum-known-st
-    returns
-    has-bit-requires
-    has-bit-requires-2
-    with-flags-requires
-    returns-2)
+flag-spec = tie.close (tie.spec has-bit-requires has-bit-requires-2 with-flags-requires returns)

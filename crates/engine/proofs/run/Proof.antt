@@ -15,9 +15,9 @@ use Rattle.waits.proofs.Holders.{rows-long, wait-range, ticks-fit, task-fits, h
 use Rattle.tally.specs.Tallies.{Roomy}
 use Rattle.engine.proofs.Runs.{Plays, run-starts, run-ends, run-bad, busy-sized, listed-sized, Scene, Turn, Goes, turn-is, newline-inside, less-left, room-for-one, turn-passed, turn-kept, turn-full, turn-told, rows-kept}
 use Rattle.engine.proofs.Waiting.{Ages, ages-none, date-fits, timer-small, ages-manager, ager-fits, clock-small, ages-activity, Waits, turn-waits, asks-none, wait-stops, wait-on}
-use Rattle.engine.proofs.Naming.{Names, rows-missing, turn-names, task-cell, missed-small, cycle-small, opened-before, act-cell, place-there, busy-long, listed-long}
-use Rattle.engine.proofs.Managing.{Lists, listed-fits, lists-more, Manages, turn-manages, managed-there, sm-stops, lists-none, sm-on}
-use Rattle.engine.proofs.Stepping.{Others, turn-others, TaskSteps, turn-task, task-stops, task-goes, Steps, turn-act, act-stops, act-goes}
+use Rattle.engine.proofs.Naming.{sm-missing, task-missing, act-missing, Tasked, turn-tasked, task-cell, missed-small, cycle-small, opened-before, listed-long, Named, turn-named, act-cell, touched, place-there, busy-long}
+use Rattle.engine.proofs.Managing.{Lists, listed-fits, lists-more, Manages, turn-manages, sm-stops, lists-none, sm-on}
+use Rattle.engine.proofs.Stepping.{TaskSteps, turn-task, task-stops, task-goes, Steps, turn-act, act-stops, act-goes}
 use Rattle.engine.proofs.run.Statement.{statement}
 use Rattle.engine.proofs.run.Tie as tie
 
@@ -34,10 +34,10 @@ abbrev μ-loop3 : tie.MeasureT-loop3
 μ-loop3 rows index log from buf place nt s₀ busy listed c at filled e d room k n m₀ s m = nt - m
 
 abbrev Inv-loop4 : tie.InvT-loop4
-Inv-loop4 rows index log from buf place nt s₀ busy listed₀ c at filled e st ti x n end a₀ s listed a = Lists rows index st ti a₀ end s₀ s listed a
+Inv-loop4 rows index log from buf place nt s₀ busy listed₀ c at filled e t n r x k end a₀ s listed a = Lists rows index n r t a₀ end s₀ s listed a
 
 abbrev μ-loop4 : tie.MeasureT-loop4
-μ-loop4 rows index log from buf place nt s₀ busy listed₀ c at filled e st ti x n end a₀ s listed a = end - a
+μ-loop4 rows index log from buf place nt s₀ busy listed₀ c at filled e t n r x k end a₀ s listed a = end - a
 
 abbrev Inv-loop : tie.InvT-loop
 Inv-loop rows index log from buf₀ place nt s₀ busy₀ listed₀ c₀ at₀ filled₀ buf s busy listed c at filled = Plays (tableIn rows index) log from s₀ c₀ buf₀ place s busy listed c at buf filled
@@ -98,49 +98,49 @@ counts :
 counts c = room-for-one (turn c)
 
 waits :
-    (c : tie.After-ticks-of Inv-loop2 μ-loop2 Inv-loop3 μ-loop3 Inv-loop4 μ-loop4 Inv-loop μ-loop) →
-    Waits (scene (c .before .before .before)) (c .ticks-of .result)
+    (c : tie.After-known-told2 Inv-loop2 μ-loop2 Inv-loop3 μ-loop3 Inv-loop4 μ-loop4 Inv-loop μ-loop) →
+    Waits (scene (c .before .before .before)) (c .before .st2 .given .0 .0)
 waits c = search (turn-waits, turn)
 
-names :
-    (c : tie.Else6 Inv-loop2 μ-loop2 Inv-loop3 μ-loop3 Inv-loop4 μ-loop4 Inv-loop μ-loop) →
-    Names (scene (c .before .before .before .before))
-names c = search (turn-names, turn)
-
-task-row :
-    (c : tie.After-task-in Inv-loop2 μ-loop2 Inv-loop3 μ-loop3 Inv-loop4 μ-loop4 Inv-loop μ-loop) →
-    c .task-in .result < 16
-task-row c = task-cell (names (c .before)) (c .task-in .ensures)
+sm-task :
+    (c : tie.Else5 Inv-loop2 μ-loop2 Inv-loop3 μ-loop3 Inv-loop4 μ-loop4 Inv-loop μ-loop) →
+    Tasked (scene (c .before .before .before .before)) (c .before .before .st3 .given .0 .0)
+sm-task c = search (turn-tasked (turn (c .before .before .before .before)))
 
 manages :
-    (c : tie.After-sm-refusal Inv-loop2 μ-loop2 Inv-loop3 μ-loop3 Inv-loop4 μ-loop4 Inv-loop μ-loop) →
-    Manages (scene (c .before .before .before .before .before .before .before .before .before)) (c .before .before .before .before .task-in .result) (c .sm-refusal .result)
-manages c = search (turn-manages, names)
+    (c : tie.After-sm-number Inv-loop2 μ-loop2 Inv-loop3 μ-loop3 Inv-loop4 μ-loop4 Inv-loop μ-loop) →
+    Manages (scene (c .before .before .before .before .before .before)) (c .before .before .before .before .st3 .given .0 .0) (c .before .before .before .before .st3 .given .0 .1 .0) (c .before .before .before .before .st3 .given .0 .1 .1 .0) (c .sm-number .result)
+manages c = search (turn-manages (sm-task (c .before .before)))
 
-others :
+task-row :
     (c : tie.Else7 Inv-loop2 μ-loop2 Inv-loop3 μ-loop3 Inv-loop4 μ-loop4 Inv-loop μ-loop) →
-    Others (scene (c .before .before .before .before .before .before .before .before))
-others c = search (turn-others (names (c .before .before .before .before)))
+    Tasked (scene (c .before .before .before .before)) (c .before .before .st4 .given .0 .0)
+task-row c = search (turn-tasked (turn (c .before .before .before .before)))
 
 of-task :
     (c : tie.After-task-step Inv-loop2 μ-loop2 Inv-loop3 μ-loop3 Inv-loop4 μ-loop4 Inv-loop μ-loop) →
-    TaskSteps (scene (c .before .before .before .before .before .before .before .before .before .before .before .before .before)) (c .before .before .before .before .before .before .before .before .task-in .result) (c .task-step .result)
-of-task c = search (turn-task (others (c .before .before .before .before .before)))
+    TaskSteps (scene (c .before .before .before .before .before .before .before .before)) (c .before .before .before .before .before .before .st4 .given .0 .0) (c .before .before .before .before .before .before .st4 .given .0 .1 .0) (c .task-step .result)
+of-task c = search (turn-task (task-row (c .before .before .before .before)))
 
 closes :
     (c : tie.After-after-step Inv-loop2 μ-loop2 Inv-loop3 μ-loop3 Inv-loop4 μ-loop4 Inv-loop μ-loop) →
-    Goes (scene (c .before .before .before .before .before .before .before .before .before .before .before .before .before .before .before .before .before)) (putTask (c .before .before .before .before .before .before .before .before .before .before .before .before .before .before .before .before .before .before .before .before .before .before .before .loop .s) (c .before .before .before .before .before .before .before .before .before .before .before .before .task-in .result) (c .before .before .before .before .task-step .result .task)) (c .before .before .before .before .before .before .before .before .before .before .before .before .before .before .before .before .before .before .before .before .before .before .before .loop .busy) (c .before .before .before .before .before .before .before .before .before .before .before .before .before .before .before .before .before .before .before .before .before .before .before .loop .listed) (c .after-step .result) (c .before .ruling-of .result)
+    Goes (scene (c .before .before .before .before .before .before .before .before .before .before .before .before)) (putTask (c .before .before .before .before .before .before .before .before .before .before .before .before .before .before .before .before .before .before .loop .s) (c .before .before .before .before .before .before .before .before .before .before .st4 .given .0 .0) (c .before .before .before .before .task-step .result .task)) (c .before .before .before .before .before .before .before .before .before .before .before .before .before .before .before .before .before .before .loop .busy) (c .before .before .before .before .before .before .before .before .before .before .before .before .before .before .before .before .before .before .loop .listed) (c .after-step .result) (c .before .ruling-of .result)
 closes c = search (task-goes (of-task (c .before .before .before .before)))
 
-act-row :
-    (c : tie.After-act-in Inv-loop2 μ-loop2 Inv-loop3 μ-loop3 Inv-loop4 μ-loop4 Inv-loop μ-loop) →
-    c .act-in .result < 64
-act-row c = act-cell (names (c .before .before .before .before .before .before .before)) (c .act-in .ensures)
+named :
+    (c : tie.Else10 Inv-loop2 μ-loop2 Inv-loop3 μ-loop3 Inv-loop4 μ-loop4 Inv-loop μ-loop) →
+    Named (scene (c .before .before .before .before .before)) (c .before .before .before .st5 .given .0 .0) (c .before .before .before .st5 .given .0 .1 .0)
+named c = search (turn-named (turn (c .before .before .before .before .before)))
+
+touches :
+    (c : tie.After-task-in Inv-loop2 μ-loop2 Inv-loop3 μ-loop3 Inv-loop4 μ-loop4 Inv-loop μ-loop) →
+    Tasked (scene (c .before .before .before .before .before .before)) (c .task-in .result)
+touches c = touched (named (c .before)) (c .task-in .ensures)
 
 of-act :
     (c : tie.After-local-step Inv-loop2 μ-loop2 Inv-loop3 μ-loop3 Inv-loop4 μ-loop4 Inv-loop μ-loop) →
-    Steps (scene (c .before .before .before .before .before .before .before .before .before .before .before .before .before .before .before)) (c .before .before .before .before .before .before .before .before .before .before .task-in .result) (c .before .before .before .before .act-in .result) (c .local-step .result)
-of-act c = search (turn-act (others (c .before .before .before .before .before .before .before)))
+    Steps (scene (c .before .before .before .before .before .before .before .before .before .before .before)) (c .before .before .before .before .before .task-in .result) (c .before .before .before .before .before .before .before .before .before .st5 .given .0 .0) (c .before .before .before .before .before .before .before .before .before .st5 .given .0 .1 .0) (c .local-step .result)
+of-act c = search (turn-act (named (c .before .before .before .before .before .before)))
 
 tasks-requires : tie.Need-tasks-requires Inv-loop2 μ-loop2 Inv-loop3 μ-loop3 Inv-loop4 μ-loop4 Inv-loop μ-loop
 tasks-requires c κs = search needs
@@ -169,11 +169,8 @@ same-length c = search rows-kept
 returns : tie.Need-returns Inv-loop2 μ-loop2 Inv-loop3 μ-loop3 Inv-loop4 μ-loop4 Inv-loop μ-loop
 returns c = search run-bad
 
-is-wait-requires : tie.Need-is-wait-requires Inv-loop2 μ-loop2 Inv-loop3 μ-loop3 Inv-loop4 μ-loop4 Inv-loop μ-loop
-is-wait-requires c κs = search needs
-
-ticks-of-requires : tie.Need-ticks-of-requires Inv-loop2 μ-loop2 Inv-loop3 μ-loop3 Inv-loop4 μ-loop4 Inv-loop μ-loop
-ticks-of-requires c κs = search needs
+enum-known-st-2 : tie.Need-enum-known-st-2 Inv-loop2 μ-loop2 Inv-loop3 μ-loop3 Inv-loop4 μ-loop4 Inv-loop μ-loop
+enum-known-st-2 c = search needs
 
 in-range-requires : tie.Need-in-range-requires Inv-loop2 μ-loop2 Inv-loop3 μ-loop3 Inv-loop4 μ-loop4 Inv-loop μ-loop
 in-range-requires c κs = search needs
@@ -224,7 +221,7 @@ loop2-less : tie.Need-loop2-less Inv-loop2 μ-loop2 Inv-loop3 μ-loop3 Inv-loop4
 loop2-less c = search needs
 
 loop2-again : tie.Need-loop2-again Inv-loop2 μ-loop2 Inv-loop3 μ-loop3 Inv-loop4 μ-loop4 Inv-loop μ-loop
-loop2-again c = manager-goes (c .before .before .before .before .before .before .before .before .loop2 .inv) (c .before .before .before .before .before .before .before .loop2-test .taken) (c .before .before .before .before .before .timer-room .ensures) (c .before .before .before .before .both .ensures) (c .before .before .enum-told2 .given .1) (c .before .either .ensures) (c .if3 .left)
+loop2-again c = manager-goes (c .before .before .before .before .before .before .before .before .loop2 .inv) (c .before .before .before .before .before .before .before .loop2-test .taken) (c .before .before .before .before .before .timer-room .ensures) (c .before .before .before .before .both .ensures) (c .before .before .enum-told2 .given .1) (c .before .either .ensures) (c .if2 .left)
 
 enum-known-h : tie.Need-enum-known-h Inv-loop2 μ-loop2 Inv-loop3 μ-loop3 Inv-loop4 μ-loop4 Inv-loop μ-loop
 enum-known-h c = search needs
@@ -260,7 +257,7 @@ loop2-less-2 : tie.Need-loop2-less-2 Inv-loop2 μ-loop2 Inv-loop3 μ-loop3 Inv-l
 loop2-less-2 c = search needs
 
 loop2-again-2 : tie.Need-loop2-again-2 Inv-loop2 μ-loop2 Inv-loop3 μ-loop3 Inv-loop4 μ-loop4 Inv-loop μ-loop
-loop2-again-2 c = activity-goes (c .before .before .before .before .before .before .before .before .before .before .before .before .before .loop2 .inv) (c .before .before .before .before .before .before .before .before .before .before .before .before .loop2-test .taken) (c .before .before .before .before .before .before .before .before .before .before .timer-room .ensures) (c .before .before .before .before .before .before .before .before .before .both .ensures) (c .before .before .before .before .before .before .before .h .given .1) (c .before .before .before .act-hinders .ensures) (c .before .before .if4 .left) (c .before .act-room .ensures) (c .both2 .ensures)
+loop2-again-2 c = activity-goes (c .before .before .before .before .before .before .before .before .before .before .before .before .before .loop2 .inv) (c .before .before .before .before .before .before .before .before .before .before .before .before .loop2-test .taken) (c .before .before .before .before .before .before .before .before .before .before .timer-room .ensures) (c .before .before .before .before .before .before .before .before .before .both .ensures) (c .before .before .before .before .before .before .before .h .given .1) (c .before .before .before .act-hinders .ensures) (c .before .before .if3 .left) (c .before .act-room .ensures) (c .both2 .ensures)
 
 wait-number-requires : tie.Need-wait-number-requires Inv-loop2 μ-loop2 Inv-loop3 μ-loop3 Inv-loop4 μ-loop4 Inv-loop μ-loop
 wait-number-requires c κs = (omega (arith, c .before .loop2 .inv .asks .sound .date), search ticks-fit)
@@ -331,20 +328,20 @@ loop3-again-2 c = search ages-activity
 add-s : tie.Need-add-s Inv-loop2 μ-loop2 Inv-loop3 μ-loop3 Inv-loop4 μ-loop4 Inv-loop μ-loop
 add-s c = omega (arith, date-fits (c .before .loop3 .inv), ticks-fit (c .before .loop3 .inv .asks))
 
-after-wait-requires : tie.Need-after-wait-requires Inv-loop2 μ-loop2 Inv-loop3 μ-loop3 Inv-loop4 μ-loop4 Inv-loop μ-loop
-after-wait-requires c κs = search counts
-
 add-at : tie.Need-add-at Inv-loop2 μ-loop2 Inv-loop3 μ-loop3 Inv-loop4 μ-loop4 Inv-loop μ-loop
 add-at c = record { fits = search behind-fits }
 
-loop-less : tie.Need-loop-less Inv-loop2 μ-loop2 Inv-loop3 μ-loop3 Inv-loop4 μ-loop4 Inv-loop μ-loop
-loop-less c = search falls
+after-wait-requires : tie.Need-after-wait-requires Inv-loop2 μ-loop2 Inv-loop3 μ-loop3 Inv-loop4 μ-loop4 Inv-loop μ-loop
+after-wait-requires c κs = search counts
 
 loop-again : tie.Need-loop-again Inv-loop2 μ-loop2 Inv-loop3 μ-loop3 Inv-loop4 μ-loop4 Inv-loop μ-loop
 loop-again c = search (wait-on (waits (c .before .before .before .before .before .before .before .before .before)), wait-numbered)
 
-rows-exist-requires : tie.Need-rows-exist-requires Inv-loop2 μ-loop2 Inv-loop3 μ-loop3 Inv-loop4 μ-loop4 Inv-loop μ-loop
-rows-exist-requires c κs = search needs
+loop-less : tie.Need-loop-less Inv-loop2 μ-loop2 Inv-loop3 μ-loop3 Inv-loop4 μ-loop4 Inv-loop μ-loop
+loop-less c = search falls
+
+enum-known-st-3 : tie.Need-enum-known-st-3 Inv-loop2 μ-loop2 Inv-loop3 μ-loop3 Inv-loop4 μ-loop4 Inv-loop μ-loop
+enum-known-st-3 c = search needs
 
 left-at-requires-6 : tie.Need-left-at-requires-6 Inv-loop2 μ-loop2 Inv-loop3 μ-loop3 Inv-loop4 μ-loop4 Inv-loop μ-loop
 left-at-requires-6 c κs = search needs
@@ -353,22 +350,16 @@ same-length-6 : tie.Need-same-length-6 Inv-loop2 μ-loop2 Inv-loop3 μ-loop3 Inv
 same-length-6 c = search keeps
 
 returns-6 : tie.Need-returns-6 Inv-loop2 μ-loop2 Inv-loop3 μ-loop3 Inv-loop4 μ-loop4 Inv-loop μ-loop
-returns-6 c = search (rows-missing (turn (c .before .before .before .before .before)))
-
-task-in-requires : tie.Need-task-in-requires Inv-loop2 μ-loop2 Inv-loop3 μ-loop3 Inv-loop4 μ-loop4 Inv-loop μ-loop
-task-in-requires c κs = search (names c)
+returns-6 c = search (sm-missing (turn (c .before .before .before .before .before)) (c .before .before .before .before .before .before .before .before .before .before .before .before .before .before .before .before .tasks .ensures))
 
 mul-x-3 : tie.Need-mul-x-3 Inv-loop2 μ-loop2 Inv-loop3 μ-loop3 Inv-loop4 μ-loop4 Inv-loop μ-loop
-mul-x-3 c = omega (arith, task-row c)
+mul-x-3 c = omega (arith, task-cell (sm-task c))
 
 element-copy-out-x-3 : tie.Need-element-copy-out-x-3 Inv-loop2 μ-loop2 Inv-loop3 μ-loop3 Inv-loop4 μ-loop4 Inv-loop μ-loop
-element-copy-out-x-3 c = search task-row
+element-copy-out-x-3 c = search (task-cell (sm-task c))
 
-is-sm-requires : tie.Need-is-sm-requires Inv-loop2 μ-loop2 Inv-loop3 μ-loop3 Inv-loop4 μ-loop4 Inv-loop μ-loop
-is-sm-requires c κs = search needs
-
-sm-refusal-requires : tie.Need-sm-refusal-requires Inv-loop2 μ-loop2 Inv-loop3 μ-loop3 Inv-loop4 μ-loop4 Inv-loop μ-loop
-sm-refusal-requires c κs = search (names (c .before .before .before .before))
+sm-number-requires : tie.Need-sm-number-requires Inv-loop2 μ-loop2 Inv-loop3 μ-loop3 Inv-loop4 μ-loop4 Inv-loop μ-loop
+sm-number-requires c κs = let T = sm-task (c .before) in (T .turn .prepared, T .row)
 
 left-at-requires-7 : tie.Need-left-at-requires-7 Inv-loop2 μ-loop2 Inv-loop3 μ-loop3 Inv-loop4 μ-loop4 Inv-loop μ-loop
 left-at-requires-7 c κs = search needs
@@ -380,10 +371,10 @@ returns-7 : tie.Need-returns-7 Inv-loop2 μ-loop2 Inv-loop3 μ-loop3 Inv-loop4 �
 returns-7 c = search (sm-stops (manages (c .before .before)))
 
 acts-end-requires : tie.Need-acts-end-requires Inv-loop2 μ-loop2 Inv-loop3 μ-loop3 Inv-loop4 μ-loop4 Inv-loop μ-loop
-acts-end-requires c κs = let M = manages (c .before) in (M .names .turn .prepared, managed-there M)
+acts-end-requires c κs = let M = manages (c .before) in (M .tasked .turn .prepared, M .tasked .row)
 
 acts-begin-requires : tie.Need-acts-begin-requires Inv-loop2 μ-loop2 Inv-loop3 μ-loop3 Inv-loop4 μ-loop4 Inv-loop μ-loop
-acts-begin-requires c κs = let M = manages (c .before .before) in (M .names .turn .prepared, managed-there M)
+acts-begin-requires c κs = let M = manages (c .before .before) in (M .tasked .turn .prepared, M .tasked .row)
 
 loop4-holds : tie.Need-loop4-holds Inv-loop2 μ-loop2 Inv-loop3 μ-loop3 Inv-loop4 μ-loop4 Inv-loop μ-loop
 loop4-holds c = search (lists-none (manages (c .before .before .before)))
@@ -422,37 +413,28 @@ loop4-again : tie.Need-loop4-again Inv-loop2 μ-loop2 Inv-loop3 μ-loop3 Inv-loo
 loop4-again c = search lists-more
 
 opened-task-requires : tie.Need-opened-task-requires Inv-loop2 μ-loop2 Inv-loop3 μ-loop3 Inv-loop4 μ-loop4 Inv-loop μ-loop
-opened-task-requires c κs = search (cycle-small (names (c .before .before .before .before .before .before .before .before .before .before)))
+opened-task-requires c κs = search (cycle-small (sm-task (c .before .before .before .before .before .before .before)))
 
 mul-u : tie.Need-mul-u Inv-loop2 μ-loop2 Inv-loop3 μ-loop3 Inv-loop4 μ-loop4 Inv-loop μ-loop
-mul-u c = omega (arith, task-row (c .before .before .before .before .before .before .before .before .before .before))
+mul-u c = omega (arith, task-cell (sm-task (c .before .before .before .before .before .before .before .before)))
 
 element-set-from-u : tie.Need-element-set-from-u Inv-loop2 μ-loop2 Inv-loop3 μ-loop3 Inv-loop4 μ-loop4 Inv-loop μ-loop
-element-set-from-u c = search task-row
-
-after-sm-requires : tie.Need-after-sm-requires Inv-loop2 μ-loop2 Inv-loop3 μ-loop3 Inv-loop4 μ-loop4 Inv-loop μ-loop
-after-sm-requires c κs = search counts
+element-set-from-u c = search (task-cell (sm-task (c .before .before .before .before .before .before .before .before)))
 
 add-at-2 : tie.Need-add-at-2 Inv-loop2 μ-loop2 Inv-loop3 μ-loop3 Inv-loop4 μ-loop4 Inv-loop μ-loop
 add-at-2 c = record { fits = search behind-fits }
 
-loop-less-2 : tie.Need-loop-less-2 Inv-loop2 μ-loop2 Inv-loop3 μ-loop3 Inv-loop4 μ-loop4 Inv-loop μ-loop
-loop-less-2 c = search falls
+after-sm-requires : tie.Need-after-sm-requires Inv-loop2 μ-loop2 Inv-loop3 μ-loop3 Inv-loop4 μ-loop4 Inv-loop μ-loop
+after-sm-requires c κs = search counts
 
 loop-again-2 : tie.Need-loop-again-2 Inv-loop2 μ-loop2 Inv-loop3 μ-loop3 Inv-loop4 μ-loop4 Inv-loop μ-loop
 loop-again-2 c = search (sm-on (manages (c .before .before .before .before .before .before .before)))
 
-is-of-task-requires : tie.Need-is-of-task-requires Inv-loop2 μ-loop2 Inv-loop3 μ-loop3 Inv-loop4 μ-loop4 Inv-loop μ-loop
-is-of-task-requires c κs = search needs
+loop-less-2 : tie.Need-loop-less-2 Inv-loop2 μ-loop2 Inv-loop3 μ-loop3 Inv-loop4 μ-loop4 Inv-loop μ-loop
+loop-less-2 c = search falls
 
-slice-aggregate-is-empty-for : tie.Need-slice-aggregate-is-empty-for Inv-loop2 μ-loop2 Inv-loop3 μ-loop3 Inv-loop4 μ-loop4 Inv-loop μ-loop
-slice-aggregate-is-empty-for c = search listed-sized
-
-is-empty-for-requires : tie.Need-is-empty-for-requires Inv-loop2 μ-loop2 Inv-loop3 μ-loop3 Inv-loop4 μ-loop4 Inv-loop μ-loop
-is-empty-for-requires c κs = let N = names (c .before .before .before .before .before .before .before) in (N .turn .prepared, N .named, listed-long N)
-
-task-step-requires : tie.Need-task-step-requires Inv-loop2 μ-loop2 Inv-loop3 μ-loop3 Inv-loop4 μ-loop4 Inv-loop μ-loop
-task-step-requires c κs = let N = names (c .before .before .before .before .before .before .before .before) in (N .turn .prepared, N .named, search (missed-small N))
+enum-known-st-4 : tie.Need-enum-known-st-4 Inv-loop2 μ-loop2 Inv-loop3 μ-loop3 Inv-loop4 μ-loop4 Inv-loop μ-loop
+enum-known-st-4 c = search needs
 
 left-at-requires-8 : tie.Need-left-at-requires-8 Inv-loop2 μ-loop2 Inv-loop3 μ-loop3 Inv-loop4 μ-loop4 Inv-loop μ-loop
 left-at-requires-8 c κs = search needs
@@ -461,127 +443,172 @@ same-length-8 : tie.Need-same-length-8 Inv-loop2 μ-loop2 Inv-loop3 μ-loop3 Inv
 same-length-8 c = search keeps
 
 returns-8 : tie.Need-returns-8 Inv-loop2 μ-loop2 Inv-loop3 μ-loop3 Inv-loop4 μ-loop4 Inv-loop μ-loop
-returns-8 c = search (task-stops (of-task (c .before .before)))
+returns-8 c = search (task-missing (turn (c .before .before .before .before .before)) (c .before .before .before .before .before .before .before .before .before .before .before .before .before .before .before .before .tasks .ensures))
 
-mul-u-2 : tie.Need-mul-u-2 Inv-loop2 μ-loop2 Inv-loop3 μ-loop3 Inv-loop4 μ-loop4 Inv-loop μ-loop
-mul-u-2 c = omega (arith, task-row (c .before .before .before .before .before .before .before .before .before .before))
+mul-x-4 : tie.Need-mul-x-4 Inv-loop2 μ-loop2 Inv-loop3 μ-loop3 Inv-loop4 μ-loop4 Inv-loop μ-loop
+mul-x-4 c = omega (arith, task-cell (task-row c))
 
-element-set-from-u-2 : tie.Need-element-set-from-u-2 Inv-loop2 μ-loop2 Inv-loop3 μ-loop3 Inv-loop4 μ-loop4 Inv-loop μ-loop
-element-set-from-u-2 c = search task-row
+element-copy-out-x-4 : tie.Need-element-copy-out-x-4 Inv-loop2 μ-loop2 Inv-loop3 μ-loop3 Inv-loop4 μ-loop4 Inv-loop μ-loop
+element-copy-out-x-4 c = search (task-cell (task-row c))
 
-ruling-of-requires : tie.Need-ruling-of-requires Inv-loop2 μ-loop2 Inv-loop3 μ-loop3 Inv-loop4 μ-loop4 Inv-loop μ-loop
-ruling-of-requires c κs = let N = names (c .before .before .before .before .before .before .before .before .before .before .before) in (N .turn .prepared, N .named, search (opened-before N))
+slice-aggregate-is-empty-for : tie.Need-slice-aggregate-is-empty-for Inv-loop2 μ-loop2 Inv-loop3 μ-loop3 Inv-loop4 μ-loop4 Inv-loop μ-loop
+slice-aggregate-is-empty-for c = search listed-sized
 
-after-step-requires : tie.Need-after-step-requires Inv-loop2 μ-loop2 Inv-loop3 μ-loop3 Inv-loop4 μ-loop4 Inv-loop μ-loop
-after-step-requires c κs = search counts
+is-empty-for-requires : tie.Need-is-empty-for-requires Inv-loop2 μ-loop2 Inv-loop3 μ-loop3 Inv-loop4 μ-loop4 Inv-loop μ-loop
+is-empty-for-requires c κs = let T = task-row (c .before .before) in (T .turn .prepared, T .row, listed-long T)
 
-add-at-3 : tie.Need-add-at-3 Inv-loop2 μ-loop2 Inv-loop3 μ-loop3 Inv-loop4 μ-loop4 Inv-loop μ-loop
-add-at-3 c = record { fits = search behind-fits }
-
-enum-known-w : tie.Need-enum-known-w Inv-loop2 μ-loop2 Inv-loop3 μ-loop3 Inv-loop4 μ-loop4 Inv-loop μ-loop
-enum-known-w c = search needs
-
-loop-less-3 : tie.Need-loop-less-3 Inv-loop2 μ-loop2 Inv-loop3 μ-loop3 Inv-loop4 μ-loop4 Inv-loop μ-loop
-loop-less-3 c = search falls
-
-loop-again-3 : tie.Need-loop-again-3 Inv-loop2 μ-loop2 Inv-loop3 μ-loop3 Inv-loop4 μ-loop4 Inv-loop μ-loop
-loop-again-3 c = search (turn-passed (closes (c .before)))
-
-put-cycle-requires : tie.Need-put-cycle-requires Inv-loop2 μ-loop2 Inv-loop3 μ-loop3 Inv-loop4 μ-loop4 Inv-loop μ-loop
-put-cycle-requires c κs = search needs
+task-step-requires : tie.Need-task-step-requires Inv-loop2 μ-loop2 Inv-loop3 μ-loop3 Inv-loop4 μ-loop4 Inv-loop μ-loop
+task-step-requires c κs = let T = task-row (c .before .before .before) in (T .turn .prepared, T .row, search (missed-small T))
 
 left-at-requires-9 : tie.Need-left-at-requires-9 Inv-loop2 μ-loop2 Inv-loop3 μ-loop3 Inv-loop4 μ-loop4 Inv-loop μ-loop
 left-at-requires-9 c κs = search needs
 
 same-length-9 : tie.Need-same-length-9 Inv-loop2 μ-loop2 Inv-loop3 μ-loop3 Inv-loop4 μ-loop4 Inv-loop μ-loop
-same-length-9 c = search (turn-kept (closes (c .before .before .before .before .before .before .before .before .before)))
+same-length-9 c = search keeps
 
 returns-9 : tie.Need-returns-9 Inv-loop2 μ-loop2 Inv-loop3 μ-loop3 Inv-loop4 μ-loop4 Inv-loop μ-loop
-returns-9 c = search (turn-full (closes (c .before .before .before .before .before .before .before .before .before)))
+returns-9 c = search (task-stops (of-task (c .before .before)))
 
-loop-less-4 : tie.Need-loop-less-4 Inv-loop2 μ-loop2 Inv-loop3 μ-loop3 Inv-loop4 μ-loop4 Inv-loop μ-loop
-loop-less-4 c = search falls
+mul-u-2 : tie.Need-mul-u-2 Inv-loop2 μ-loop2 Inv-loop3 μ-loop3 Inv-loop4 μ-loop4 Inv-loop μ-loop
+mul-u-2 c = omega (arith, task-cell (task-row (c .before .before .before .before .before .before)))
 
-loop-again-4 : tie.Need-loop-again-4 Inv-loop2 μ-loop2 Inv-loop3 μ-loop3 Inv-loop4 μ-loop4 Inv-loop μ-loop
-loop-again-4 c = search (turn-told (closes (c .before .before .before .before .before .before .before .before)))
+element-set-from-u-2 : tie.Need-element-set-from-u-2 Inv-loop2 μ-loop2 Inv-loop3 μ-loop3 Inv-loop4 μ-loop4 Inv-loop μ-loop
+element-set-from-u-2 c = search (task-cell (task-row (c .before .before .before .before .before .before)))
 
-act-in-requires : tie.Need-act-in-requires Inv-loop2 μ-loop2 Inv-loop3 μ-loop3 Inv-loop4 μ-loop4 Inv-loop μ-loop
-act-in-requires c κs = search needs
+ruling-of-requires : tie.Need-ruling-of-requires Inv-loop2 μ-loop2 Inv-loop3 μ-loop3 Inv-loop4 μ-loop4 Inv-loop μ-loop
+ruling-of-requires c κs = let T = task-row (c .before .before .before .before .before .before) in (T .turn .prepared, T .row, search (opened-before T))
 
-mul-y-4 : tie.Need-mul-y-4 Inv-loop2 μ-loop2 Inv-loop3 μ-loop3 Inv-loop4 μ-loop4 Inv-loop μ-loop
-mul-y-4 c = omega (arith, act-row c)
+add-at-3 : tie.Need-add-at-3 Inv-loop2 μ-loop2 Inv-loop3 μ-loop3 Inv-loop4 μ-loop4 Inv-loop μ-loop
+add-at-3 c = record { fits = search behind-fits }
 
-element-copy-out-y-4 : tie.Need-element-copy-out-y-4 Inv-loop2 μ-loop2 Inv-loop3 μ-loop3 Inv-loop4 μ-loop4 Inv-loop μ-loop
-element-copy-out-y-4 c = search act-row
+after-step-requires : tie.Need-after-step-requires Inv-loop2 μ-loop2 Inv-loop3 μ-loop3 Inv-loop4 μ-loop4 Inv-loop μ-loop
+after-step-requires c κs = search counts
 
-slice-aggregate-is-clear-for : tie.Need-slice-aggregate-is-clear-for Inv-loop2 μ-loop2 Inv-loop3 μ-loop3 Inv-loop4 μ-loop4 Inv-loop μ-loop
-slice-aggregate-is-clear-for c = search busy-sized
+enum-known-w : tie.Need-enum-known-w Inv-loop2 μ-loop2 Inv-loop3 μ-loop3 Inv-loop4 μ-loop4 Inv-loop μ-loop
+enum-known-w c = search needs
 
-is-clear-for-requires : tie.Need-is-clear-for-requires Inv-loop2 μ-loop2 Inv-loop3 μ-loop3 Inv-loop4 μ-loop4 Inv-loop μ-loop
-is-clear-for-requires c κs = let N = names (c .before .before .before .before .before .before .before .before .before) in (N .turn .prepared, place-there N _, busy-long N)
+loop-again-3 : tie.Need-loop-again-3 Inv-loop2 μ-loop2 Inv-loop3 μ-loop3 Inv-loop4 μ-loop4 Inv-loop μ-loop
+loop-again-3 c = search (turn-passed (closes (c .before)))
 
-local-step-requires : tie.Need-local-step-requires Inv-loop2 μ-loop2 Inv-loop3 μ-loop3 Inv-loop4 μ-loop4 Inv-loop μ-loop
-local-step-requires c κs = let N = names (c .before .before .before .before .before .before .before .before .before .before) in (N .turn .prepared, N .named, place-there N _)
+loop-less-3 : tie.Need-loop-less-3 Inv-loop2 μ-loop2 Inv-loop3 μ-loop3 Inv-loop4 μ-loop4 Inv-loop μ-loop
+loop-less-3 c = search falls
+
+put-cycle-requires : tie.Need-put-cycle-requires Inv-loop2 μ-loop2 Inv-loop3 μ-loop3 Inv-loop4 μ-loop4 Inv-loop μ-loop
+put-cycle-requires c κs = search needs
 
 left-at-requires-10 : tie.Need-left-at-requires-10 Inv-loop2 μ-loop2 Inv-loop3 μ-loop3 Inv-loop4 μ-loop4 Inv-loop μ-loop
 left-at-requires-10 c κs = search needs
 
 same-length-10 : tie.Need-same-length-10 Inv-loop2 μ-loop2 Inv-loop3 μ-loop3 Inv-loop4 μ-loop4 Inv-loop μ-loop
-same-length-10 c = search keeps
+same-length-10 c = search (turn-kept (closes (c .before .before .before .before .before .before .before .before .before)))
 
 returns-10 : tie.Need-returns-10 Inv-loop2 μ-loop2 Inv-loop3 μ-loop3 Inv-loop4 μ-loop4 Inv-loop μ-loop
-returns-10 c = search (act-stops (of-act (c .before .before)))
+returns-10 c = search (turn-full (closes (c .before .before .before .before .before .before .before .before .before)))
 
-mul-u-3 : tie.Need-mul-u-3 Inv-loop2 μ-loop2 Inv-loop3 μ-loop3 Inv-loop4 μ-loop4 Inv-loop μ-loop
-mul-u-3 c = omega (arith, task-row (c .before .before .before .before .before .before .before .before .before .before .before .before .before))
+loop-again-4 : tie.Need-loop-again-4 Inv-loop2 μ-loop2 Inv-loop3 μ-loop3 Inv-loop4 μ-loop4 Inv-loop μ-loop
+loop-again-4 c = search (turn-told (closes (c .before .before .before .before .before .before .before .before)))
 
-element-set-from-u-3 : tie.Need-element-set-from-u-3 Inv-loop2 μ-loop2 Inv-loop3 μ-loop3 Inv-loop4 μ-loop4 Inv-loop μ-loop
-element-set-from-u-3 c = search task-row
+loop-less-4 : tie.Need-loop-less-4 Inv-loop2 μ-loop2 Inv-loop3 μ-loop3 Inv-loop4 μ-loop4 Inv-loop μ-loop
+loop-less-4 c = search falls
 
-mul-v-2 : tie.Need-mul-v-2 Inv-loop2 μ-loop2 Inv-loop3 μ-loop3 Inv-loop4 μ-loop4 Inv-loop μ-loop
-mul-v-2 c = omega (arith, act-row (c .before .before .before .before .before .before .before))
+enum-known-st-5 : tie.Need-enum-known-st-5 Inv-loop2 μ-loop2 Inv-loop3 μ-loop3 Inv-loop4 μ-loop4 Inv-loop μ-loop
+enum-known-st-5 c = search needs
 
-element-set-from-v-2 : tie.Need-element-set-from-v-2 Inv-loop2 μ-loop2 Inv-loop3 μ-loop3 Inv-loop4 μ-loop4 Inv-loop μ-loop
-element-set-from-v-2 c = search act-row
-
-busy-of-requires : tie.Need-busy-of-requires Inv-loop2 μ-loop2 Inv-loop3 μ-loop3 Inv-loop4 μ-loop4 Inv-loop μ-loop
-busy-of-requires c κs = search needs
-
-mul-busy : tie.Need-mul-busy Inv-loop2 μ-loop2 Inv-loop3 μ-loop3 Inv-loop4 μ-loop4 Inv-loop μ-loop
-mul-busy c = omega (arith, act-row (c .before .before .before .before .before .before .before .before))
-
-array-write-busy : tie.Need-array-write-busy Inv-loop2 μ-loop2 Inv-loop3 μ-loop3 Inv-loop4 μ-loop4 Inv-loop μ-loop
-array-write-busy c = search act-row
-
-listed-of-requires-2 : tie.Need-listed-of-requires-2 Inv-loop2 μ-loop2 Inv-loop3 μ-loop3 Inv-loop4 μ-loop4 Inv-loop μ-loop
-listed-of-requires-2 c κs = search needs
-
-mul-listed-2 : tie.Need-mul-listed-2 Inv-loop2 μ-loop2 Inv-loop3 μ-loop3 Inv-loop4 μ-loop4 Inv-loop μ-loop
-mul-listed-2 c = omega (arith, act-row (c .before .before .before .before .before .before .before .before .before))
-
-array-write-listed-2 : tie.Need-array-write-listed-2 Inv-loop2 μ-loop2 Inv-loop3 μ-loop3 Inv-loop4 μ-loop4 Inv-loop μ-loop
-array-write-listed-2 c = search act-row
-
-after-step-requires-2 : tie.Need-after-step-requires-2 Inv-loop2 μ-loop2 Inv-loop3 μ-loop3 Inv-loop4 μ-loop4 Inv-loop μ-loop
-after-step-requires-2 c κs = search counts
-
-add-at-4 : tie.Need-add-at-4 Inv-loop2 μ-loop2 Inv-loop3 μ-loop3 Inv-loop4 μ-loop4 Inv-loop μ-loop
-add-at-4 c = record { fits = search behind-fits }
-
-loop-less-5 : tie.Need-loop-less-5 Inv-loop2 μ-loop2 Inv-loop3 μ-loop3 Inv-loop4 μ-loop4 Inv-loop μ-loop
-loop-less-5 c = search falls
-
-loop-again-5 : tie.Need-loop-again-5 Inv-loop2 μ-loop2 Inv-loop3 μ-loop3 Inv-loop4 μ-loop4 Inv-loop μ-loop
-loop-again-5 c = search (act-goes (of-act (c .before .before .before .before .before .before)))
+check-names-requires : tie.Need-check-names-requires Inv-loop2 μ-loop2 Inv-loop3 μ-loop3 Inv-loop4 μ-loop4 Inv-loop μ-loop
+check-names-requires c κs = search needs
 
 left-at-requires-11 : tie.Need-left-at-requires-11 Inv-loop2 μ-loop2 Inv-loop3 μ-loop3 Inv-loop4 μ-loop4 Inv-loop μ-loop
 left-at-requires-11 c κs = search needs
 
 same-length-11 : tie.Need-same-length-11 Inv-loop2 μ-loop2 Inv-loop3 μ-loop3 Inv-loop4 μ-loop4 Inv-loop μ-loop
-same-length-11 c = search rows-kept
+same-length-11 c = search keeps
 
 returns-11 : tie.Need-returns-11 Inv-loop2 μ-loop2 Inv-loop3 μ-loop3 Inv-loop4 μ-loop4 Inv-loop μ-loop
-returns-11 c = search run-ends
+returns-11 c = search (act-missing (turn (c .before .before .before .before .before .before)))
+
+task-in-requires : tie.Need-task-in-requires Inv-loop2 μ-loop2 Inv-loop3 μ-loop3 Inv-loop4 μ-loop4 Inv-loop μ-loop
+task-in-requires c κs = let M = named c in (M .turn .prepared, M .named)
+
+mul-x-5 : tie.Need-mul-x-5 Inv-loop2 μ-loop2 Inv-loop3 μ-loop3 Inv-loop4 μ-loop4 Inv-loop μ-loop
+mul-x-5 c = omega (arith, task-cell (touches c))
+
+element-copy-out-x-5 : tie.Need-element-copy-out-x-5 Inv-loop2 μ-loop2 Inv-loop3 μ-loop3 Inv-loop4 μ-loop4 Inv-loop μ-loop
+element-copy-out-x-5 c = search (task-cell (touches c))
+
+mul-y-4 : tie.Need-mul-y-4 Inv-loop2 μ-loop2 Inv-loop3 μ-loop3 Inv-loop4 μ-loop4 Inv-loop μ-loop
+mul-y-4 c = omega (arith, act-cell (named (c .before .before)))
+
+element-copy-out-y-4 : tie.Need-element-copy-out-y-4 Inv-loop2 μ-loop2 Inv-loop3 μ-loop3 Inv-loop4 μ-loop4 Inv-loop μ-loop
+element-copy-out-y-4 c = search (act-cell (named (c .before .before)))
+
+slice-aggregate-is-clear-for : tie.Need-slice-aggregate-is-clear-for Inv-loop2 μ-loop2 Inv-loop3 μ-loop3 Inv-loop4 μ-loop4 Inv-loop μ-loop
+slice-aggregate-is-clear-for c = search busy-sized
+
+is-clear-for-requires : tie.Need-is-clear-for-requires Inv-loop2 μ-loop2 Inv-loop3 μ-loop3 Inv-loop4 μ-loop4 Inv-loop μ-loop
+is-clear-for-requires c κs = let M = named (c .before .before .before .before) in (M .turn .prepared, place-there M, busy-long M)
+
+local-step-requires : tie.Need-local-step-requires Inv-loop2 μ-loop2 Inv-loop3 μ-loop3 Inv-loop4 μ-loop4 Inv-loop μ-loop
+local-step-requires c κs = let M = named (c .before .before .before .before .before) in (M .turn .prepared, M .named, place-there M)
+
+left-at-requires-12 : tie.Need-left-at-requires-12 Inv-loop2 μ-loop2 Inv-loop3 μ-loop3 Inv-loop4 μ-loop4 Inv-loop μ-loop
+left-at-requires-12 c κs = search needs
+
+same-length-12 : tie.Need-same-length-12 Inv-loop2 μ-loop2 Inv-loop3 μ-loop3 Inv-loop4 μ-loop4 Inv-loop μ-loop
+same-length-12 c = search keeps
+
+returns-12 : tie.Need-returns-12 Inv-loop2 μ-loop2 Inv-loop3 μ-loop3 Inv-loop4 μ-loop4 Inv-loop μ-loop
+returns-12 c = search (act-stops (of-act (c .before .before)))
+
+mul-u-3 : tie.Need-mul-u-3 Inv-loop2 μ-loop2 Inv-loop3 μ-loop3 Inv-loop4 μ-loop4 Inv-loop μ-loop
+mul-u-3 c = omega (arith, task-cell (touches (c .before .before .before .before .before .before .before .before)))
+
+element-set-from-u-3 : tie.Need-element-set-from-u-3 Inv-loop2 μ-loop2 Inv-loop3 μ-loop3 Inv-loop4 μ-loop4 Inv-loop μ-loop
+element-set-from-u-3 c = search (task-cell (touches (c .before .before .before .before .before .before .before .before)))
+
+mul-v-2 : tie.Need-mul-v-2 Inv-loop2 μ-loop2 Inv-loop3 μ-loop3 Inv-loop4 μ-loop4 Inv-loop μ-loop
+mul-v-2 c = omega (arith, act-cell (named (c .before .before .before .before .before .before .before .before .before)))
+
+element-set-from-v-2 : tie.Need-element-set-from-v-2 Inv-loop2 μ-loop2 Inv-loop3 μ-loop3 Inv-loop4 μ-loop4 Inv-loop μ-loop
+element-set-from-v-2 c = search (act-cell (named (c .before .before .before .before .before .before .before .before .before)))
+
+busy-of-requires : tie.Need-busy-of-requires Inv-loop2 μ-loop2 Inv-loop3 μ-loop3 Inv-loop4 μ-loop4 Inv-loop μ-loop
+busy-of-requires c κs = search needs
+
+mul-busy : tie.Need-mul-busy Inv-loop2 μ-loop2 Inv-loop3 μ-loop3 Inv-loop4 μ-loop4 Inv-loop μ-loop
+mul-busy c = omega (arith, act-cell (named (c .before .before .before .before .before .before .before .before .before .before)))
+
+array-write-busy : tie.Need-array-write-busy Inv-loop2 μ-loop2 Inv-loop3 μ-loop3 Inv-loop4 μ-loop4 Inv-loop μ-loop
+array-write-busy c = search (act-cell (named (c .before .before .before .before .before .before .before .before .before .before)))
+
+listed-of-requires-2 : tie.Need-listed-of-requires-2 Inv-loop2 μ-loop2 Inv-loop3 μ-loop3 Inv-loop4 μ-loop4 Inv-loop μ-loop
+listed-of-requires-2 c κs = search needs
+
+mul-listed-2 : tie.Need-mul-listed-2 Inv-loop2 μ-loop2 Inv-loop3 μ-loop3 Inv-loop4 μ-loop4 Inv-loop μ-loop
+mul-listed-2 c = omega (arith, act-cell (named (c .before .before .before .before .before .before .before .before .before .before .before)))
+
+array-write-listed-2 : tie.Need-array-write-listed-2 Inv-loop2 μ-loop2 Inv-loop3 μ-loop3 Inv-loop4 μ-loop4 Inv-loop μ-loop
+array-write-listed-2 c = search (act-cell (named (c .before .before .before .before .before .before .before .before .before .before .before)))
+
+add-at-4 : tie.Need-add-at-4 Inv-loop2 μ-loop2 Inv-loop3 μ-loop3 Inv-loop4 μ-loop4 Inv-loop μ-loop
+add-at-4 c = record { fits = search behind-fits }
+
+after-step-requires-2 : tie.Need-after-step-requires-2 Inv-loop2 μ-loop2 Inv-loop3 μ-loop3 Inv-loop4 μ-loop4 Inv-loop μ-loop
+after-step-requires-2 c κs = search counts
+
+loop-again-5 : tie.Need-loop-again-5 Inv-loop2 μ-loop2 Inv-loop3 μ-loop3 Inv-loop4 μ-loop4 Inv-loop μ-loop
+loop-again-5 c = search (act-goes (of-act (c .before .before .before .before .before .before)))
+
+loop-less-5 : tie.Need-loop-less-5 Inv-loop2 μ-loop2 Inv-loop3 μ-loop3 Inv-loop4 μ-loop4 Inv-loop μ-loop
+loop-less-5 c = search falls
+
+left-at-requires-13 : tie.Need-left-at-requires-13 Inv-loop2 μ-loop2 Inv-loop3 μ-loop3 Inv-loop4 μ-loop4 Inv-loop μ-loop
+left-at-requires-13 c κs = search needs
+
+same-length-13 : tie.Need-same-length-13 Inv-loop2 μ-loop2 Inv-loop3 μ-loop3 Inv-loop4 μ-loop4 Inv-loop μ-loop
+same-length-13 c = search rows-kept
+
+returns-13 : tie.Need-returns-13 Inv-loop2 μ-loop2 Inv-loop3 μ-loop3 Inv-loop4 μ-loop4 Inv-loop μ-loop
+returns-13 c = search run-ends
 
 pub run-spec : {M : Type 1} → statement M
 run-spec =
@@ -604,8 +631,7 @@ run-spec =
     left-at-requires
     same-length
     returns
-    is-wait-requires
-    ticks-of-requires
+    enum-known-st-2
     in-range-requires
     left-at-requires-2
     same-length-2
@@ -658,19 +684,17 @@ run-spec =
     loop3-less-2
     loop3-again-2
     add-s
-    after-wait-requires
     add-at
+    after-wait-requires
     loop-less
     loop-again
-    rows-exist-requires
+    enum-known-st-3
     left-at-requires-6
     same-length-6
     returns-6
-    task-in-requires
     mul-x-3
     element-copy-out-x-3
-    is-sm-requires
-    sm-refusal-requires
+    sm-number-requires
     left-at-requires-7
     same-length-7
     returns-7
@@ -691,40 +715,52 @@ run-spec =
     opened-task-requires
     mul-u
     element-set-from-u
-    after-sm-requires
     add-at-2
+    after-sm-requires
     loop-less-2
     loop-again-2
-    is-of-task-requires
-    slice-aggregate-is-empty-for
-    is-empty-for-requires
-    task-step-requires
+    enum-known-st-4
     left-at-requires-8
     same-length-8
     returns-8
+    mul-x-4
+    element-copy-out-x-4
+    slice-aggregate-is-empty-for
+    is-empty-for-requires
+    task-step-requires
+    left-at-requires-9
+    same-length-9
+    returns-9
     mul-u-2
     element-set-from-u-2
     ruling-of-requires
-    after-step-requires
     add-at-3
+    after-step-requires
     enum-known-w
     loop-less-3
     loop-again-3
     put-cycle-requires
-    left-at-requires-9
-    same-length-9
-    returns-9
+    left-at-requires-10
+    same-length-10
+    returns-10
     loop-less-4
     loop-again-4
-    act-in-requires
+    enum-known-st-5
+    check-names-requires
+    left-at-requires-11
+    same-length-11
+    returns-11
+    task-in-requires
+    mul-x-5
+    element-copy-out-x-5
     mul-y-4
     element-copy-out-y-4
     slice-aggregate-is-clear-for
     is-clear-for-requires
     local-step-requires
-    left-at-requires-10
-    same-length-10
-    returns-10
+    left-at-requires-12
+    same-length-12
+    returns-12
     mul-u-3
     element-set-from-u-3
     mul-v-2
@@ -735,10 +771,10 @@ run-spec =
     listed-of-requires-2
     mul-listed-2
     array-write-listed-2
-    after-step-requires-2
     add-at-4
+    after-step-requires-2
     loop-less-5
     loop-again-5
-    left-at-requires-11
-    same-length-11
-    returns-11)
+    left-at-requires-13
+    same-length-13
+    returns-13)

@@ -1,77 +1,94 @@
 -- `judge_blocks` is safe and ends: each block is read behind what is left of the one before.
-use Prim.Native.Nat.{_≤_, _-_}
-use mathlib.Core.Path.{_≡_}
-use mathlib.Core.List.{[]}
+use Prim.Native.Nat.{_-_}
 use native.Mathlib.Omega.{arith}
-use lib.ListN.{length}
 use borrow.Author.Needs.{needs}
 use Rattle.log.proofs.Turns.{part-long}
-use Rattle.prepared.specs.Prepared.{tableIn}
-use Rattle.engine.specs.Play.{Ready}
-use Rattle.judging.proofs.Reporting.{fresh-start}
-use Rattle.judge.proofs.Blocks.{first-within}
+use Rattle.streaming.proofs.Turning.{put-within}
+use Rattle.judge.proofs.Blocks.{Reading, reading-start, reading-roomy, reading-small, reading-more}
 use Rattle.judge.proofs.judge_blocks.Statement.{statement}
 use Rattle.judge.proofs.judge_blocks.Tie as tie
 
 abbrev Inv-loop : tie.InvT-loop
-Inv-loop rows index block₀ start g₀ have₀ turns₀ block g have turns = Ready (tableIn rows index) g × (have ≤ length block) × (length block ≡ length block₀)
+Inv-loop rows index block₀ start last out₀ g₀ have₀ ended₀ turns₀ block out g have ended turns = Reading rows index block₀ out₀ block out g have turns
 
 abbrev μ-loop : tie.MeasureT-loop
-μ-loop rows index block₀ start g₀ have₀ turns₀ block g have turns = 1099511627776 - turns
+μ-loop rows index block₀ start last out₀ g₀ have₀ ended₀ turns₀ block out g have ended turns = 1099511627776 - turns
 
 fresh-going-requires : tie.Need-fresh-going-requires Inv-loop μ-loop
 fresh-going-requires c κs = search needs
 
 loop-holds : tie.Need-loop-holds Inv-loop μ-loop
-loop-holds c = (fresh-start _ [] _ (c .fresh-going .ensures) (omega arith) .0, search needs, search needs)
+loop-holds c = search (reading-start)
 
 add-turns : tie.Need-add-turns Inv-loop μ-loop
 add-turns c = search needs
 
-read-behind-requires : tie.Need-read-behind-requires Inv-loop μ-loop
-read-behind-requires c κs = search needs
+judge-block-requires : tie.Need-judge-block-requires Inv-loop μ-loop
+judge-block-requires c κs =
+    let loop = c .before .before .before in
+    let start = loop .before .before .before .before .before .before in
+    (start .pre .0, loop .loop .inv .resumes, reading-roomy (loop .loop .inv) (start .pre .2) (c .before .before .loop-test .taken), search needs, omega arith)
 
-add-have : tie.Need-add-have Inv-loop μ-loop
-add-have c = search needs
+slice-reshare-prefix-write-all : tie.Need-slice-reshare-prefix-write-all Inv-loop μ-loop
+slice-reshare-prefix-write-all c = search (put-within)
 
-slice-reshare-prefix-chunk-end : tie.Need-slice-reshare-prefix-chunk-end Inv-loop μ-loop
-slice-reshare-prefix-chunk-end c = search needs
+slice-aggregate-write-all : tie.Need-slice-aggregate-write-all Inv-loop μ-loop
+slice-aggregate-write-all c = part-long _ _ (search (put-within))
 
-slice-aggregate-chunk-end : tie.Need-slice-aggregate-chunk-end Inv-loop μ-loop
-slice-aggregate-chunk-end c = part-long _ _ (search needs)
-
-chunk-end-requires : tie.Need-chunk-end-requires Inv-loop μ-loop
-chunk-end-requires c κs = search needs
-
-slice-reshare-prefix-judge-turn : tie.Need-slice-reshare-prefix-judge-turn Inv-loop μ-loop
-slice-reshare-prefix-judge-turn c = search (first-within)
-
-slice-aggregate-judge-turn : tie.Need-slice-aggregate-judge-turn Inv-loop μ-loop
-slice-aggregate-judge-turn c = part-long _ _ (search (first-within))
-
-judge-turn-requires : tie.Need-judge-turn-requires Inv-loop μ-loop
-judge-turn-requires c κs = search needs
+write-all-requires : tie.Need-write-all-requires Inv-loop μ-loop
+write-all-requires c κs = search needs
 
 same-length : tie.Need-same-length Inv-loop μ-loop
 same-length c = search needs
 
+same-length-2 : tie.Need-same-length-2 Inv-loop μ-loop
+same-length-2 c = search needs
+
 returns : tie.Need-returns Inv-loop μ-loop
 returns c = search needs
 
-to-front-requires : tie.Need-to-front-requires Inv-loop μ-loop
-to-front-requires c κs = search needs
+same-length-3 : tie.Need-same-length-3 Inv-loop μ-loop
+same-length-3 c = search needs
+
+same-length-4 : tie.Need-same-length-4 Inv-loop μ-loop
+same-length-4 c = search needs
+
+returns-2 : tie.Need-returns-2 Inv-loop μ-loop
+returns-2 c = search needs
+
+read-behind-requires : tie.Need-read-behind-requires Inv-loop μ-loop
+read-behind-requires c κs = put-within (c .before .before .before .before .before .before .before .before .before .before .judge-block .ensures .held)
+
+add-have : tie.Need-add-have Inv-loop μ-loop
+add-have c =
+    let turn = c .before .before .before .before .before .before .before .before .before .before .before .before .before in
+    let loop = turn .before .before .before .before in
+    let start = loop .before .before .before .before .before .before in
+    omega (
+      arith,
+      c .before .before .read-behind .ensures .0,
+      reading-small (loop .loop .inv) (start .pre .2) (turn .before .before .before .loop-test .taken) (loop .loop .ended) (turn .judge-block .ensures),
+    )
 
 loop-less : tie.Need-loop-less Inv-loop μ-loop
 loop-less c = search needs
 
 loop-again : tie.Need-loop-again Inv-loop μ-loop
-loop-again c = search needs
+loop-again c =
+    let turn = c .before .before .before .before .before .before .before .before .before .before .before .before .before in
+    let loop = turn .before .before .before .before in
+    let start = loop .before .before .before .before .before .before in
+    reading-more (loop .loop .inv) (start .pre .2) (turn .before .before .before .loop-test .taken) (start .pre .0) (loop .loop .ended) (turn .judge-block .ensures)
+    _ (search needs) _ (c .before .before .read-behind .ensures .0)
 
-same-length-2 : tie.Need-same-length-2 Inv-loop μ-loop
-same-length-2 c = search needs
+same-length-5 : tie.Need-same-length-5 Inv-loop μ-loop
+same-length-5 c = search needs
 
-returns-2 : tie.Need-returns-2 Inv-loop μ-loop
-returns-2 c = search needs
+same-length-6 : tie.Need-same-length-6 Inv-loop μ-loop
+same-length-6 c = search needs
+
+returns-3 : tie.Need-returns-3 Inv-loop μ-loop
+returns-3 c = search needs
 
 pub judge-blocks-spec : {M : Type 1} → statement M
 judge-blocks-spec =
@@ -82,18 +99,20 @@ judge-blocks-spec =
     fresh-going-requires
     loop-holds
     add-turns
+    judge-block-requires
+    slice-reshare-prefix-write-all
+    slice-aggregate-write-all
+    write-all-requires
+    same-length
+    same-length-2
+    returns
+    same-length-3
+    same-length-4
+    returns-2
     read-behind-requires
     add-have
-    slice-reshare-prefix-chunk-end
-    slice-aggregate-chunk-end
-    chunk-end-requires
-    slice-reshare-prefix-judge-turn
-    slice-aggregate-judge-turn
-    judge-turn-requires
-    same-length
-    returns
-    to-front-requires
     loop-less
     loop-again
-    same-length-2
-    returns-2)
+    same-length-5
+    same-length-6
+    returns-3)

@@ -1,7 +1,6 @@
 -- `read_row` meets its contract. Each field ends within the line, so that the next may start there.
 use borrow.Author.Needs.{needs}
 use Rattle.text.proofs.Turns.{first-ends}
-use Rattle.row.specs.Kinds.{rowWords}
 use Rattle.row.proofs.Turns.{row-unknown, row-first, row-second, row-third, row-long, row-whole, field-ends}
 use Rattle.row.proofs.read_row.Statement.{statement}
 use Rattle.row.proofs.read_row.Tie as tie
@@ -9,20 +8,17 @@ use Rattle.row.proofs.read_row.Tie as tie
 next-byte-requires : tie.Need-next-byte-requires
 next-byte-requires c κs = search needs
 
-slice-aggregate-word-in : tie.Need-slice-aggregate-word-in
-slice-aggregate-word-in c = search needs
+sub-kind-in : tie.Need-sub-kind-in
+sub-kind-in c = search needs
 
-sub-word-in : tie.Need-sub-word-in
-sub-word-in c = search needs
+part-kind-in-start : tie.Need-part-kind-in-start
+part-kind-in-start c = search needs
 
-part-word-in-start : tie.Need-part-word-in-start
-part-word-in-start c = search needs
+part-kind-in-end : tie.Need-part-kind-in-end
+part-kind-in-end c = search (first-ends)
 
-part-word-in-end : tie.Need-part-word-in-end
-part-word-in-end c = search (first-ends)
-
-word-in-requires : tie.Need-word-in-requires
-word-in-requires c κs = search needs
+kind-in-requires : tie.Need-kind-in-requires
+kind-in-requires c κs = search needs
 
 enum-known-k : tie.Need-enum-known-k
 enum-known-k c = search needs
@@ -31,7 +27,6 @@ enum-told : tie.Need-enum-told
 enum-told c = search needs
 
 returns : tie.Need-returns
-unfolding rowWords
 returns c = search (row-unknown)
 
 form-requires : tie.Need-form-requires
@@ -47,7 +42,6 @@ enum-told-2 : tie.Need-enum-told-2
 enum-told-2 c = search needs
 
 returns-2 : tie.Need-returns-2
-unfolding rowWords
 returns-2 c = search (row-first)
 
 form-requires-2 : tie.Need-form-requires-2
@@ -65,7 +59,6 @@ enum-told-3 : tie.Need-enum-told-3
 enum-told-3 c = search needs
 
 returns-3 : tie.Need-returns-3
-unfolding rowWords
 returns-3 c = search (row-second)
 
 form-requires-3 : tie.Need-form-requires-3
@@ -83,21 +76,18 @@ enum-told-4 : tie.Need-enum-told-4
 enum-told-4 c = search needs
 
 returns-4 : tie.Need-returns-4
-unfolding rowWords
 returns-4 c = search (row-third)
 
 returns-5 : tie.Need-returns-5
-unfolding rowWords
 returns-5 c = search (row-long)
 
 returns-6 : tie.Need-returns-6
-unfolding rowWords
 returns-6 c =
     let third = c .before .before in
     let second = third .before .before .before .before .before in
     let first = second .before .before .before .before .before in
     let kind = first .before .before .before .before .before in
-    row-whole _ _ (kind .before .before .before .before .before .next-byte .ensures) _ (kind .before .before .word-in .ensures) _ (kind .k .given .1)
+    row-whole _ _ (kind .before .before .before .before .next-byte .ensures) _ (kind .before .before .kind-in .ensures) _ (kind .k .given .1)
     _ (first .before .before .before .form .ensures) _ (first .before .before .field-behind .ensures) _ _ (first .a .given .1)
     _ (second .before .before .before .form2 .ensures) _ (second .before .before .field-behind2 .ensures) _ _ (second .b .given .1)
     _ (third .before .before .before .form3 .ensures) _ (third .before .before .field-behind3 .ensures) _ _ (third .c .given .1) (c .if1 .left)
@@ -107,11 +97,10 @@ read-row-spec =
     tie.close
     (tie.spec
     next-byte-requires
-    slice-aggregate-word-in
-    sub-word-in
-    part-word-in-start
-    part-word-in-end
-    word-in-requires
+    sub-kind-in
+    part-kind-in-start
+    part-kind-in-end
+    kind-in-requires
     enum-known-k
     enum-told
     returns

@@ -1,8 +1,7 @@
 -- `row_width` meets its contract. No word and no field is so long that the sum would wrap.
-use native.Mathlib.Omega.{arith}
 use borrow.Author.Needs.{needs}
-use Rattle.row.specs.Kinds.{rowWords}
-use Rattle.row.proofs.Rows.{word-width}
+use native.Mathlib.Omega.{arith}
+use Rattle.row.proofs.Tables.{word-width}
 use Rattle.row.proofs.Turns.{width-whole}
 use Rattle.row.proofs.row_width.Statement.{statement}
 use Rattle.row.proofs.row_width.Tie as tie
@@ -25,30 +24,22 @@ form-requires-3 c κs = search needs
 field-width-requires-3 : tie.Need-field-width-requires-3
 field-width-requires-3 c κs = search needs
 
-slice-aggregate-word-width : tie.Need-slice-aggregate-word-width
-slice-aggregate-word-width c = search needs
-
-word-width-requires : tie.Need-word-width-requires
-word-width-requires c κs = search needs
+letters-requires : tie.Need-letters-requires
+letters-requires c κs = search needs
 
 add-result : tie.Need-add-result
-unfolding rowWords
-add-result c = omega (arith, word-width (c .before .before .before .before .before .before .before .before .args .r .kind))
+add-result c = omega (arith, word-width (c .before .before .before .before .before .before .before .args .r .kind))
 
 add-result-2 : tie.Need-add-result-2
-unfolding rowWords
-add-result-2 c = omega (arith, word-width (c .before .before .before .before .before .before .before .before .args .r .kind))
+add-result-2 c = omega (arith, word-width (c .before .before .before .before .before .before .before .args .r .kind))
 
 add-result-3 : tie.Need-add-result-3
-unfolding rowWords
-add-result-3 c = omega (arith, word-width (c .before .before .before .before .before .before .before .before .args .r .kind))
+add-result-3 c = omega (arith, word-width (c .before .before .before .before .before .before .before .args .r .kind))
 
 add-result-4 : tie.Need-add-result-4
-unfolding rowWords
-add-result-4 c = omega (arith, word-width (c .before .before .before .before .before .before .before .before .args .r .kind))
+add-result-4 c = omega (arith, word-width (c .before .before .before .before .before .before .before .args .r .kind))
 
 returns : tie.Need-returns
-unfolding rowWords
 returns c = search (width-whole)
 
 pub row-width-spec : {M : Type 1} → statement M
@@ -61,8 +52,7 @@ row-width-spec =
     field-width-requires-2
     form-requires-3
     field-width-requires-3
-    slice-aggregate-word-width
-    word-width-requires
+    letters-requires
     add-result
     add-result-2
     add-result-3

@@ -22,14 +22,14 @@ answer-requires-2 c κs = search needs
 returns-2 : tie.Need-returns-2
 returns-2 c = search answers
 
+started-requires : tie.Need-started-requires
+started-requires c κs = search needs
+
 answer-requires-3 : tie.Need-answer-requires-3
 answer-requires-3 c κs = search needs
 
 returns-3 : tie.Need-returns-3
 returns-3 c = search answers
-
-started-requires : tie.Need-started-requires
-started-requires c κs = search needs
 
 answer-requires-4 : tie.Need-answer-requires-4
 answer-requires-4 c κs = search needs
@@ -47,8 +47,8 @@ do-cx-spec =
     is-standing-requires
     answer-requires-2
     returns-2
+    started-requires
     answer-requires-3
     returns-3
-    started-requires
     answer-requires-4
     returns-4)

@@ -16,50 +16,26 @@ enum-told-3 c = search needs
 enum-told-4 : tie.Need-enum-told-4
 enum-told-4 c = search needs
 
-enum-told-5 : tie.Need-enum-told-5
-enum-told-5 c = search needs
-
-enum-told-6 : tie.Need-enum-told-6
-enum-told-6 c = search needs
-
-enum-told-7 : tie.Need-enum-told-7
-enum-told-7 c = search needs
-
 is-clear-at-requires : tie.Need-is-clear-at-requires
 is-clear-at-requires c κs = search needs
 
-enum-told-8 : tie.Need-enum-told-8
-enum-told-8 c = search needs
-
-enum-told-9 : tie.Need-enum-told-9
-enum-told-9 c = search needs
+enum-told-5 : tie.Need-enum-told-5
+enum-told-5 c = search needs
 
 returns : tie.Need-returns
-returns c = search clear-is
+returns c = search needs
 
 returns-2 : tie.Need-returns-2
-returns-2 c = search clear-is
+returns-2 c = search needs
 
 returns-3 : tie.Need-returns-3
-returns-3 c = search clear-is
+returns-3 c = search needs
 
 returns-4 : tie.Need-returns-4
 returns-4 c = search clear-is
 
 returns-5 : tie.Need-returns-5
-returns-5 c = search clear-is
-
-returns-6 : tie.Need-returns-6
-returns-6 c = search clear-is
-
-returns-7 : tie.Need-returns-7
-returns-7 c = search clear-is
-
-returns-8 : tie.Need-returns-8
-returns-8 c = search clear-is
-
-returns-9 : tie.Need-returns-9
-returns-9 c = search clear-is
+returns-5 c = search needs
 
 pub is-clear-for-spec : {M : Type 1} → statement M
 is-clear-for-spec =
@@ -69,18 +45,10 @@ is-clear-for-spec =
     enum-told-2
     enum-told-3
     enum-told-4
-    enum-told-5
-    enum-told-6
-    enum-told-7
     is-clear-at-requires
-    enum-told-8
-    enum-told-9
+    enum-told-5
     returns
     returns-2
     returns-3
     returns-4
-    returns-5
-    returns-6
-    returns-7
-    returns-8
-    returns-9)
+    returns-5)

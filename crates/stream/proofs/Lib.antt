@@ -1,0 +1,4 @@
+pub mod Pieces
+pub mod Cuts
+pub mod Lines
+pub mod Fronts
