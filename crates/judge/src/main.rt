@@ -7,13 +7,16 @@ ghost use mathlib.Core.Bool.{true};
 ghost use Rattle.prepared.specs.Prepared.{Prepared};
 ghost use Rattle.table.specs.Checks.{Passes};
 ghost use Rattle.stream.specs.Cut.{cutKnown};
-ghost use Rattle.streaming.specs.Turns.{mostBlock, mostTold};
+ghost use Rattle.streaming.specs.Turns.{mostBlock};
 use libc::STDIN_FILENO;
 use libc::STDOUT_FILENO;
 use table::Table;
 
 // How much a block holds, with what is held of the one before: a table with the line behind it fits.
 const BLOCK: usize = 65536;
+
+// Room for the header, or for the report on a refused table.
+const OPENING: usize = 256;
 
 // Room for whatever is told of a block.
 const ROOM: usize = 172032;
@@ -54,23 +57,17 @@ fn read_start(block: &mut [u8]) -> Start
 
 // Judges the log block after block, up to its end or the first refusal. So many bytes of it stand at the front of the first block already.
 // Where a write fails nobody reads on, and the program ends.
-fn judge_blocks(
-    rows: &[u32],
-    index: &[u32],
-    block: &mut [u8],
-    start: usize,
-    last: bool,
-    out: &mut [u8],
-)
-    requires { ⌜ Prepared (now rows) (now index) × (start ≤ length (now block)) × (length (now block) ≤ mostBlock) × (mostTold mostBlock ≤ length (now out)) ⌝ }
+fn judge_blocks(rows: &[u32], index: &[u32], block: &mut [u8], start: usize, last: bool)
+    requires { ⌜ Prepared (now rows) (now index) × (start ≤ length (now block)) × (length (now block) ≤ mostBlock) ⌝ }
 {
+    let mut out = [0u8; ROOM];
     let mut g = engine::fresh_going();
     let mut have = start;
     let mut ended = last;
     let mut turns = 0;
     while turns < BLOCKS {
         turns += 1;
-        let turn = streaming::judge_block(rows, index, block, have, ended, g, out);
+        let turn = streaming::judge_block(rows, index, block, have, ended, g, &mut out);
         let told = turn.told;
         if !io::write_all(STDOUT_FILENO, &out[..told]) {
             return;
@@ -87,16 +84,16 @@ fn judge_blocks(
 }
 
 // Judges the log against an accepted table.
-fn judge_log(t: Table, block: &mut [u8], have: usize, ended: bool, out: &mut [u8])
-    requires { ⌜ Passes t × (have ≤ length (now block)) × (length (now block) ≤ mostBlock) × (mostTold mostBlock ≤ length (now out)) ⌝ }
+fn judge_log(t: Table, block: &mut [u8], have: usize, ended: bool)
+    requires { ⌜ Passes t × (have ≤ length (now block)) × (length (now block) ≤ mostBlock) ⌝ }
 {
     let index = preparing::index_of(t);
     let rows = t.rows;
-    judge_blocks(&rows, &index, block, have, ended, out);
+    judge_blocks(&rows, &index, block, have, ended);
 }
 
 fn main() {
-    let mut out = [0u8; ROOM];
+    let mut out = [0u8; OPENING];
     let mut block = [0u8; BLOCK];
     let start = read_start(&mut block);
     let have = start.have;
@@ -106,7 +103,7 @@ fn main() {
     let t = opened.table;
     if io::write_all(STDOUT_FILENO, &out[..told]) {
         if opened.fine {
-            judge_log(t, &mut block, held, start.ended, &mut out);
+            judge_log(t, &mut block, held, start.ended);
         }
     }
 }

@@ -35,13 +35,10 @@ write-all-requires c κs = search needs
 slice-aggregate-judge-log : tie.Need-slice-aggregate-judge-log
 slice-aggregate-judge-log c = search needs
 
-slice-aggregate-judge-log-2 : tie.Need-slice-aggregate-judge-log-2
-slice-aggregate-judge-log-2 c = search needs
-
 judge-log-requires : tie.Need-judge-log-requires
 judge-log-requires c κs =
-    let opened = c .before .before .before .before .before .before .before .before .before .open-table .ensures in
-    (opened-accepted opened (c .before .before .if2 .taken), put-within (opened .held), omega (arith, put-length (opened .held)), omega (arith, put-length (opened .told)))
+    let opened = c .before .before .before .before .before .before .before .before .open-table .ensures in
+    (opened-accepted opened (c .before .if2 .taken), put-within (opened .held), omega (arith, put-length (opened .held)))
 
 returns : tie.Need-returns
 returns c = search needs
@@ -65,7 +62,6 @@ main-spec =
     slice-aggregate-write-all
     write-all-requires
     slice-aggregate-judge-log
-    slice-aggregate-judge-log-2
     judge-log-requires
     returns
     returns-2
