@@ -1,7 +1,7 @@
 -- The page's own examples over their bytes, each decided by computation.
 use mathlib.Core.List.{[], _++_}
 use mathlib.Core.Path.{_≡_, refl}
-use mathlib.Core.Bool.{Bool, true}
+use mathlib.Core.Bool.{true}
 use Rattle.text.specs.Digits.{valueOf}
 use Rattle.text.specs.Number.{readNumber, widthOf, digits}
 use Rattle.text.specs.Set.{readSet, bit}

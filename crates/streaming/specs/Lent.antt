@@ -1,6 +1,6 @@
 -- The turns as the code does them: over a block that holds the bytes at hand at its front, and a buffer that is filled with the bytes told.
 use Prim.Native.Nat.{ℕ}
-use mathlib.Core.Bool.{Bool, true, false}
+use mathlib.Core.Bool.{Bool}
 use mathlib.Core.List.{List}
 use mathlib.Core.Path.{_≡_}
 use lib.ListN.{length, take, drop}
