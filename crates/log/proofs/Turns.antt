@@ -131,10 +131,6 @@ module _ (s : List ℕ) where
     unfolding readStep
     step-in = let k : length s + 1 ≤ 63 = omega arith in rw (le-ltb _ _ k)
 
-    -- too few bytes for two letters and a tab
-    pub step-few : length s < 3 → Bad ≡ readStep s
-    step-few l = rw step-in (begins s (λ q e. omega (arith, ap length e)) (λ x y q e. omega (arith, ap length e)))
-
     module _ (n : getD s 2 0 ≡ 9 → ⊥) where
       two : (x y : ℕ) (q : List ℕ) → s ≡ x ∷ y ∷ 9 ∷ q → ⊥
       two x y q e = n (rw e)
@@ -155,6 +151,10 @@ module _ (s : List ℕ) where
     step-wait l t e u r p =
         let q : wait ++ 9 ∷ drop 5 s ≡ s = rw (same-list (take 5 s) (wait ++ 9 ∷ []) (sym e ∙ not-false t u)) at (take-append-drop 5 s) in
         rw (le-ltb _ _ l) at p ∙ sym (waiting (drop 5 s)) ∙ ap (λ z. stepIn (splitOn 9 z)) q ∙ sym step-in
+
+  -- too few bytes for two letters and a tab
+  pub step-few : length s < 3 → Bad ≡ readStep s
+  step-few l = rw (step-in (omega arith)) (begins s (λ q e. omega (arith, ap length e)) (λ x y q e. omega (arith, ap length e)))
 
 -- two letters and a tab
 pub step-two : (s : List ℕ) → length s < 63 → 3 ≤ length s → getD s 2 0 ≡ 9 → (r : Line) → r ≡ onWord (wordIn stepWords (take 2 s)) (partsFrom 9 s 3) → r ≡ readStep s

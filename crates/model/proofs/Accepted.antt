@@ -189,6 +189,13 @@ module _ (K : Table) (s : State) where
       (need-mk (holds K s a and not (y .halt) and stands K y (y .place)) 13 _ (and-i (holds K s a) _ (g .holds) (and-i (not (y .halt)) _ (g .notR) (g .stands)))
       (need-mk (clearAt K s (y .place)) 15 0 (g .clear) refl))
 
+  pub goes-fa : (a : ℕ) (p : Place) → FaGoes K s a p → faRefusal K s a p ≡ 0
+  goes-fa a p g =
+      let y = actAt s a in
+      need-mk (ltb a (K .nacts) and known K p) 12 _ (and-i (ltb a (K .nacts)) _ (lt→ltb _ _ (g .inA)) (g .known))
+      (need-mk (holds K s a and (y .executing) and faAllowed K (y .place) p) 13 _ (and-i (holds K s a) _ (g .holds) (and-i (y .executing) _ (g .executing) (g .allowed)))
+      (need-mk (leb 1 (y .clock)) 14 0 (le→leb _ _ (g .clock)) refl))
+
   pub fa-goes : (a : ℕ) (p : Place) → faRefusal K s a p ≡ 0 → FaGoes K s a p
   fa-goes a p ok =
       let y = actAt s a in
@@ -199,13 +206,6 @@ module _ (K : Table) (s : State) where
       let mine = and-both (holds K s a) _ (f13 .0) in
       let runs = and-both (y .executing) _ (mine .1) in
       record { inA = ltb→lt _ _ (rows .0); known = rows .1; holds = mine .0; executing = runs .0; allowed = runs .1; clock = leb→le _ _ (f14 .0) }
-
-  pub goes-fa : (a : ℕ) (p : Place) → FaGoes K s a p → faRefusal K s a p ≡ 0
-  goes-fa a p g =
-      let y = actAt s a in
-      need-mk (ltb a (K .nacts) and known K p) 12 _ (and-i (ltb a (K .nacts)) _ (lt→ltb _ _ (g .inA)) (g .known))
-      (need-mk (holds K s a and (y .executing) and faAllowed K (y .place) p) 13 _ (and-i (holds K s a) _ (g .holds) (and-i (y .executing) _ (g .executing) (g .allowed)))
-      (need-mk (leb 1 (y .clock)) 14 0 (le→leb _ _ (g .clock)) refl))
 
   pub fm-goes : (t : ℕ) → fmRefusal K s t ≡ 0 → FmGoes K s t
   fm-goes t ok =

@@ -43,7 +43,40 @@ zero-accepted : (n : ℕ) → n ≡ 0 → T (accepted n)
 zero-accepted n e = true-T (accepted n) (eq-eqb n 0 e)
 
 module _ (K : Table) (s : State) where
-  -- a hindered wait has such a step
+  -- where some sets let `sm` in, the empty ones do
+  empty-sm : (t : ℕ) → t < K .ntasks → T (not (taskAt s t .managing)) → T (taskAt s t .signal) → smRefusal K s t 0 0 ≡ 0
+  empty-sm t h w g = goes-sm K s t 0 0 (record { inT = h; withinN = within-none K t; withinR = within-none K t; waits = w; signal = g })
+
+  -- an urgent task, an urgent activity
+  by-task : (t : ℕ) → t < K .ntasks → T (urgentTask K s t) → T (urgent K s)
+  unfolding urgent
+  by-task t h u = or-l (some (K .ntasks) (urgentTask K s)) _ (some-mk (urgentTask K s) (K .ntasks) t h u)
+
+  by-act : (a : ℕ) → a < K .nacts → T (urgentAct K s a) → T (urgent K s)
+  unfolding urgent
+  by-act a h u = or-r (some (K .ntasks) (urgentTask K s)) _ (some-mk (urgentAct K s) (K .nacts) a h u)
+
+  -- such a step, `sm` with any sets, hinders a wait
+  some-urgent : (x : Step) → T (urgentKind s x) → refusal K s x ≡ 0 → T (urgent K s)
+  unfolding urgentTask urgentAct refusal
+  some-urgent (Wait d) k ok = absurd k
+  some-urgent (Sm t n r) k ok =
+      let g = sm-goes K s t n r ok in
+      by-task t (g .inT) (or-l (accepted (smRefusal K s t 0 0)) _ (zero-accepted _ (empty-sm t (g .inT) (g .waits) (g .signal))))
+  some-urgent (OfTask t St) k ok = absurd k
+  some-urgent (OfTask t Fm) k ok = by-task t (fm-goes K s t ok .inT) (or-r (accepted (smRefusal K s t 0 0)) _ (or-r (some (K .nacts) (λ a. accepted (lmRefusal K s t a))) _ (zero-accepted _ ok)))
+  some-urgent (OfAct a (Lm t)) k ok =
+      let g = lm-goes K s t a ok in
+      by-task t (g .inT) (or-r (accepted (smRefusal K s t 0 0)) _ (or-l (some (K .nacts) (λ a. accepted (lmRefusal K s t a))) _ (some-mk (λ a. accepted (lmRefusal K s t a)) (K .nacts) a (g .inA) (zero-accepted _ ok))))
+  some-urgent (OfAct a Ia) k ok = by-act a (ia-goes K s a ok .inA) (or-l (accepted (iaRefusal K s a)) _ (zero-accepted _ ok))
+  some-urgent (OfAct a (Ea Ether)) k ok = absurd (omega arith)
+  some-urgent (OfAct a (Ea (Codel c))) k ok =
+      let g = ea-goes K s a c ok in
+      by-act a (g .inA) (or-r (accepted (iaRefusal K s a)) _ (or-r (accepted (cxRefusal K s a)) _ (and-i (isEther (actAt s a .place)) _ k (some-mk (λ c. accepted (eaRefusal K s a (Codel c))) (K .ncodels) c (g .inC) (zero-accepted _ ok)))))
+  some-urgent (OfAct a Cx) k ok = by-act a (cx-goes K s a ok .inA) (or-r (accepted (iaRefusal K s a)) _ (or-l (accepted (cxRefusal K s a)) _ (zero-accepted _ ok)))
+  some-urgent (OfAct a (Fa p)) k ok = absurd k
+
+  -- and a hindered wait has such a step
   urgent-some : T (urgent K s) → Hindering K s
   unfolding urgent urgentTask urgentAct refusal
   urgent-some u = ⊎-elim task act (or-cases (some (K .ntasks) (urgentTask K s)) _ u)
@@ -68,39 +101,6 @@ module _ (K : Table) (s : State) where
           (λ r. ⊎-elim (λ h. (OfAct a Cx, tt, eqb→eq _ _ h)) (λ q. let z = some-at eas (K .ncodels) (and-r ether _ q) in (OfAct a (Ea (Codel (z .0))), and-l ether _ q, eqb→eq _ _ (z .2)))
           (or-cases (accepted (cxRefusal K s a)) _ r))
           (or-cases (accepted (iaRefusal K s a)) _ (w .2))
-
-  -- where some sets let `sm` in, the empty ones do
-  empty-sm : (t : ℕ) → t < K .ntasks → T (not (taskAt s t .managing)) → T (taskAt s t .signal) → smRefusal K s t 0 0 ≡ 0
-  empty-sm t h w g = goes-sm K s t 0 0 (record { inT = h; withinN = within-none K t; withinR = within-none K t; waits = w; signal = g })
-
-  -- an urgent task, an urgent activity
-  by-task : (t : ℕ) → t < K .ntasks → T (urgentTask K s t) → T (urgent K s)
-  unfolding urgent
-  by-task t h u = or-l (some (K .ntasks) (urgentTask K s)) _ (some-mk (urgentTask K s) (K .ntasks) t h u)
-
-  by-act : (a : ℕ) → a < K .nacts → T (urgentAct K s a) → T (urgent K s)
-  unfolding urgent
-  by-act a h u = or-r (some (K .ntasks) (urgentTask K s)) _ (some-mk (urgentAct K s) (K .nacts) a h u)
-
-  -- and such a step, `sm` with any sets, hinders a wait
-  some-urgent : (x : Step) → T (urgentKind s x) → refusal K s x ≡ 0 → T (urgent K s)
-  unfolding urgentTask urgentAct refusal
-  some-urgent (Wait d) k ok = absurd k
-  some-urgent (Sm t n r) k ok =
-      let g = sm-goes K s t n r ok in
-      by-task t (g .inT) (or-l (accepted (smRefusal K s t 0 0)) _ (zero-accepted _ (empty-sm t (g .inT) (g .waits) (g .signal))))
-  some-urgent (OfTask t St) k ok = absurd k
-  some-urgent (OfTask t Fm) k ok = by-task t (fm-goes K s t ok .inT) (or-r (accepted (smRefusal K s t 0 0)) _ (or-r (some (K .nacts) (λ a. accepted (lmRefusal K s t a))) _ (zero-accepted _ ok)))
-  some-urgent (OfAct a (Lm t)) k ok =
-      let g = lm-goes K s t a ok in
-      by-task t (g .inT) (or-r (accepted (smRefusal K s t 0 0)) _ (or-l (some (K .nacts) (λ a. accepted (lmRefusal K s t a))) _ (some-mk (λ a. accepted (lmRefusal K s t a)) (K .nacts) a (g .inA) (zero-accepted _ ok))))
-  some-urgent (OfAct a Ia) k ok = by-act a (ia-goes K s a ok .inA) (or-l (accepted (iaRefusal K s a)) _ (zero-accepted _ ok))
-  some-urgent (OfAct a (Ea Ether)) k ok = absurd (omega arith)
-  some-urgent (OfAct a (Ea (Codel c))) k ok =
-      let g = ea-goes K s a c ok in
-      by-act a (g .inA) (or-r (accepted (iaRefusal K s a)) _ (or-r (accepted (cxRefusal K s a)) _ (and-i (isEther (actAt s a .place)) _ k (some-mk (λ c. accepted (eaRefusal K s a (Codel c))) (K .ncodels) c (g .inC) (zero-accepted _ ok)))))
-  some-urgent (OfAct a Cx) k ok = by-act a (cx-goes K s a ok .inA) (or-r (accepted (iaRefusal K s a)) _ (or-l (accepted (cxRefusal K s a)) _ (zero-accepted _ ok)))
-  some-urgent (OfAct a (Fa p)) k ok = absurd k
 
   -- 16 is given exactly where one of the named steps would be accepted
   pub urgent-exact : T (urgent K s) ↔ Hindering K s

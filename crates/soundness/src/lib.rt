@@ -112,10 +112,10 @@ fn counts_ok(date: u64, x: Task) -> bool
     }
     let b = a - x.cycle;
     let g = number_of(x.signal);
-    if b < g {
-        return false;
+    if g <= b {
+        return x.missed <= b - g;
     }
-    x.missed <= b - g
+    false
 }
 
 // The sentences on one task.

@@ -44,10 +44,10 @@ fn ruled(rows: &[u32], index: &[u32], t: usize, date: u64, x: Task) -> Ruling
     if prepared::keep_of(rows, index, t) <= date - x.opened {
         return kept;
     }
-    if 1 <= x.missed {
-        return kept;
+    if x.missed < 1 {
+        return Ruling::Dropped;
     }
-    Ruling::Dropped
+    kept
 }
 
 // The verdict that an accepted step of a task gives: only `fm` gives one.

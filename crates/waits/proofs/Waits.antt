@@ -62,15 +62,6 @@ module _ (K : Table) (F : Formed K) (s : State) (S : Sound K s) where
       codels : ℕ → Bool
       codels c = executes K s c implies leb (actAt s (K .owner c) .clock + d) (K .limit c)
 
-      to : (t : ℕ) → t < K .ntasks → (h : Holder) → taskAt s t .holder ≡ h → T (each (K .ncodels) codels) → T (heldRoom K d h (actAt s (heldIn h)))
-      to t l Manager e r = tt
-      to t l (Activity a) e r = imp-i (actAt s a .executing) _ (λ x.
-          let w = executing-at K s S a (holder-in K s S t a l e .0) x in
-          let q : T (runs (actAt s a) (w .codel) implies leb (actAt s a .clock + d) (K .limit (w .codel))) =
-          subst (λ u. T (runs (actAt s u) (w .codel) implies leb (actAt s u .clock + d) (K .limit (w .codel)))) (w .owner) (each-at codels (K .ncodels) r (w .codel) (w .inK)) in
-          subst⁻¹ (λ p. T (limitAt K p (actAt s a .clock + d))) (w .place)
-          (imp-e (runs (actAt s a) (w .codel)) _ q (and-i (actAt s a .executing) _ x (subst⁻¹ (λ p. T (isCodel p (w .codel))) (w .place) (eqb-refl (w .codel))))))
-
       at-codel : (c n : ℕ) (p : Place) → T (isCodel p c) → T (limitAt K p n) → T (leb n (K .limit c))
       at-codel c n Ether i r = absurd i
       at-codel c n (Codel b) i r = subst (λ u. T (leb n (K .limit u))) (eqb→eq b c i) r
@@ -84,6 +75,15 @@ module _ (K : Table) (F : Formed K) (s : State) (S : Sound K s) where
           let e = held-is (taskAt s (K .task a) .holder) a (executing-at K s S a l ex .holds) in
           let v = and-r (timers (K .task a)) _ (each-at (roomAt K s d) (K .ntasks) r (K .task a) (F .task a l)) in
           at-codel c (y .clock + d) (y .place) (and-r (y .executing) _ x) (imp-e (y .executing) _ (subst (λ h. T (heldRoom K d h (actAt s (heldIn h)))) e v) ex)
+
+      to : (t : ℕ) → t < K .ntasks → (h : Holder) → taskAt s t .holder ≡ h → T (each (K .ncodels) codels) → T (heldRoom K d h (actAt s (heldIn h)))
+      to t l Manager e r = tt
+      to t l (Activity a) e r = imp-i (actAt s a .executing) _ (λ x.
+          let w = executing-at K s S a (holder-in K s S t a l e .0) x in
+          let q : T (runs (actAt s a) (w .codel) implies leb (actAt s a .clock + d) (K .limit (w .codel))) =
+          subst (λ u. T (runs (actAt s u) (w .codel) implies leb (actAt s u .clock + d) (K .limit (w .codel)))) (w .owner) (each-at codels (K .ncodels) r (w .codel) (w .inK)) in
+          subst⁻¹ (λ p. T (limitAt K p (actAt s a .clock + d))) (w .place)
+          (imp-e (runs (actAt s a) (w .codel)) _ q (and-i (actAt s a .executing) _ x (subst⁻¹ (λ p. T (isCodel p (w .codel))) (w .place) (eqb-refl (w .codel))))))
 
   -- the refusal of a wait
   pub wait-by-holders : (d : ℕ) → waitRefusal K s d ≡ need (inRange d) 12 (need (not (some (K .ntasks) (hindersAt K s))) 16 (need (each (K .ntasks) (roomAt K s d)) 17 (need (leb (s .date + d) ceiling) 18 0)))

@@ -205,8 +205,8 @@ pub fn wait_number(room: bool, date: u64, d: u64) -> u64
     if !room {
         return 17;
     }
-    if model::CEILING < date + d {
-        return 18;
+    if date + d <= model::CEILING {
+        return 0;
     }
-    0
+    18
 }
