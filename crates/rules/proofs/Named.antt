@@ -56,9 +56,6 @@ pub ruleset rows = (known-codel, stop-codel, act-there, ea-codel, fa-place)
 
 -- what is told of a step is told by its kind
 module _ (K : Table) (a : ℕ) (k z : ActStep) (e : k ≡ z) where
-  pub task-is : (n : ℕ) → n ≡ taskIn K a z → n ≡ taskIn K a k
-  task-is n q = q ∙ ap (taskIn K a) (sym e)
-
   pub local-is : (b : Bool) (u : Task) (v : Act) (r : Told) → r ≡ local K a z b u v → r ≡ local K a k b u v
   local-is b u v r q = q ∙ ap (λ w. local K a w b u v) (sym e)
 

@@ -20,7 +20,7 @@ use Rattle.table.specs.Tables.{addRow, tableOf}
 use Rattle.table.specs.Checks.{rowFault, Said, accepts, refused, onFault, closed}
 use Rattle.table.specs.Texts.{onRow, rowBehind, faultBehind, atEndRow, readLines, endRow, textOf}
 use Rattle.table.specs.declared.Table.{Table}
-use Rattle.row.proofs.Rows.{row-reads, row-read, row-free}
+use Rattle.row.proofs.Rows.{row-reads, row-read, row-free, row-split}
 use Rattle.table.proofs.Fields.{ok-fields, ok-worded, ok-limited}
 use Rattle.table.proofs.Stored.{added-sized}
 use Rattle.table.proofs.Accepted.{Sized, Follows, accepted}
@@ -148,8 +148,7 @@ rows-read l (more {t = t} {r = r} {rs = rs} f b) e h c =
     let no : r .kind ≡ endKind → ⊥ = λ z. omega (arith, f .worded .kind) in
     rw (
       n,
-      append-assoc (rowLine r) (10 ∷ []) text,
-      split-cut 10 (rowLine r) text (row-free r),
+      row-split r text,
       one-line t l (rowLine r) text,
       row-reads r ok,
       ne-eqb (r .kind) endKind no,
