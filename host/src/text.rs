@@ -12,9 +12,10 @@ pub fn number(most: usize, field: &[u8]) -> Option<u64> {
     std::str::from_utf8(field).ok()?.parse().ok()
 }
 
-/// "A set is sixteen lower-case hex digits; bit i, counted from the low end, is activity i."
-pub fn set(field: &[u8]) -> Option<u64> {
-    if field.len() != 16 {
+/// "A set is sixteen lower-case hex digits; bit i, counted from the low end, is activity i", over the number of digits; the text layer never
+/// reads more than 32.
+pub fn set_of(digits: usize, field: &[u8]) -> Option<u128> {
+    if field.len() != digits || digits > 32 {
         return None;
     }
     let mut members = 0;
@@ -27,6 +28,16 @@ pub fn set(field: &[u8]) -> Option<u64> {
         }
     }
     Some(members)
+}
+
+/// A set of sixteen digits, as log lines have it.
+pub fn set(field: &[u8]) -> Option<u64> {
+    set_of(16, field).map(|members| members as u64)
+}
+
+/// Whether a number is a member of a set.
+pub fn is_member(set: u128, i: u64) -> bool {
+    i < 128 && set >> i & 1 == 1
 }
 
 /// Which of the words the field is.

@@ -38,10 +38,49 @@ fn shown(result: Option<u64>) -> String {
     result.map_or("bad".to_string(), |n| n.to_string())
 }
 
+/// Sets with few members, members side by side, or any.
+fn any_set(s: &mut Source) -> u128 {
+    let ones = u128::MAX >> s.below(128);
+    match s.below(4) {
+        0 => 0,
+        1 => 1 << s.below(128),
+        2 => ones << s.below(128),
+        _ => (u128::from(s.next()) << 64 | u128::from(s.next())) & ones,
+    }
+}
+
+/// How many digits a set is read over: those of the page, those of two halves, and odd ones.
+fn any_digits(s: &mut Source) -> usize {
+    match s.below(4) {
+        0 => 16,
+        1 => 32,
+        _ => s.below(36) as usize,
+    }
+}
+
+/// Members of either half and around their ends, and numbers that are none.
+fn any_member(s: &mut Source) -> u64 {
+    match s.below(8) {
+        0 => any_number(s) % 10_000_000_000_000_000_000,
+        1 => 60 + s.below(8),
+        _ => s.below(132),
+    }
+}
+
+/// The last so many digits of a set, with zeros before it where there are more.
+fn set_field(set: u128, digits: usize) -> Vec<u8> {
+    let whole = format!("{:0>100}", format!("{:x}", set));
+    whole.as_bytes()[100 - digits..].to_vec()
+}
+
+fn yes_or_no(yes: bool) -> String {
+    if yes { "yes" } else { "no" }.to_string()
+}
+
 /// A case and the answer that the page gives it.
 fn case(s: &mut Source, note: &str) -> (Vec<u8>, String) {
     let n = any_number(s);
-    let (op, args, answer) = match s.below(6) {
+    let (op, args, answer) = match s.below(8) {
         0 => {
             let most = s.below(22) as usize;
             let field = damaged(s, n.to_string().into_bytes());
@@ -49,20 +88,34 @@ fn case(s: &mut Source, note: &str) -> (Vec<u8>, String) {
             ("number", vec![most.to_string().into_bytes(), field], answer)
         }
         1 => {
-            let field = damaged(s, format!("{:016x}", n).into_bytes());
-            let answer = shown(text::set(&field));
-            ("set", vec![field], answer)
+            let digits = any_digits(s);
+            let whole = set_field(any_set(s), digits);
+            let field = damaged(s, whole);
+            let answer = text::set_of(digits, &field).map_or("bad".to_string(), |m| format!("{} {}", m as u64, m >> 64));
+            ("set", vec![digits.to_string().into_bytes(), field], answer)
         }
-        2 => ("digits", vec![format!("{:016x}", n).into_bytes()], format!("{} of width {}", n, n.to_string().len())),
+        2 => ("digits", vec![b"16".to_vec(), format!("{:016x}", n).into_bytes()], format!("{} of width {}", n, n.to_string().len())),
         3 => {
-            let m = n % 10_000_000_000_000_000_000;
-            ("hex", vec![m.to_string().into_bytes()], format!("{:016x}", m))
+            let digits = s.below(100) as usize;
+            let (low, high) = (n % 10_000_000_000_000_000_000, any_number(s) % 10_000_000_000_000_000_000);
+            let answer = String::from_utf8(set_field(u128::from(high) << 64 | u128::from(low), digits)).expect("hex digits");
+            ("hex", vec![digits.to_string().into_bytes(), low.to_string().into_bytes(), high.to_string().into_bytes()], answer)
         }
         4 => {
             let whole = s.one_of(&WORDS).as_bytes().to_vec();
             let field = damaged(s, whole);
             let answer = text::word(&WORDS, &field).map_or("unknown".to_string(), |k| format!("{} {}", k, WORDS[k]));
             ("word", vec![field], answer)
+        }
+        5 => {
+            let (set, i) = (any_set(s), any_member(s));
+            let answer = yes_or_no(text::is_member(set, i));
+            ("member", vec![b"32".to_vec(), set_field(set, 32), i.to_string().into_bytes()], answer)
+        }
+        6 => {
+            let (set, i, j) = (any_set(s), any_member(s), any_member(s));
+            let answer = yes_or_no((0..128).all(|k| !text::is_member(set, k) || (i <= k && k < j)));
+            ("between", vec![b"32".to_vec(), set_field(set, 32), i.to_string().into_bytes(), j.to_string().into_bytes()], answer)
         }
         _ => {
             let fields = (0..s.below(4)).map(|_| damaged(s, n.to_string().into_bytes())).collect();

@@ -1,5 +1,4 @@
 pub mod Lines
-pub mod Flags
 pub mod Runs
 pub mod Waiting
 pub mod Naming

@@ -9,12 +9,12 @@ use borrow.Author.Tests.{le-ltb, eq-eqb, ne-eqb}
 use Rattle.text.specs.Parts.{firstAt, partsFrom}
 use Rattle.text.proofs.Parts.{parts-cut, parts-none}
 use Rattle.text.proofs.Picks.{order}
-use Rattle.text.proofs.Turns.{part-ends}
+use Rattle.text.proofs.Seeking.{part-ends}
 use Rattle.model.specs.Tables.{Table}
 use Rattle.model.specs.declared.State.{State}
 use Rattle.model.specs.declared.Step.{Step}
 use Rattle.model.specs.declared.Line.the-variants.{Is, Bad}
-use Rattle.log.specs.Lines.{readStep}
+use Rattle.log.specs.Lines.{setDigits, readStep}
 use Rattle.log.proofs.Shapes.{no-step}
 use Rattle.engine.specs.Play.{pieces, stopped, onStep, onLine, played}
 use Rattle.engine.specs.Turns.{lineAt}
@@ -33,9 +33,9 @@ module _ (K : Table) (s : State) (c : Tally) (room : ℕ) (log : List ℕ) where
   unfolding played
   at-end at h = rw (drop-of-length-le log h)
 
-  one-more : (p : List ℕ) (ps qs : List (List ℕ)) (q : List ℕ) → ps ≡ q ∷ qs → played K s c room (p ∷ ps) ≡ onLine K s c room (readStep p) (p ∷ ps) ps (λ w d n. played K w d n ps)
+  one-more : (p : List ℕ) (ps qs : List (List ℕ)) (q : List ℕ) → ps ≡ q ∷ qs → played K s c room (p ∷ ps) ≡ onLine K s c room (readStep setDigits p) (p ∷ ps) ps (λ w d n. played K w d n ps)
   unfolding played
-  one-more p ps qs q e = subst⁻¹ (λ ps. played K s c room (p ∷ ps) ≡ onLine K s c room (readStep p) (p ∷ ps) ps (λ w d n. played K w d n ps)) e refl
+  one-more p ps qs q e = subst⁻¹ (λ ps. played K s c room (p ∷ ps) ≡ onLine K s c room (readStep setDigits p) (p ∷ ps) ps (λ w d n. played K w d n ps)) e refl
 
   one-last : (p : List ℕ) → 0 < length p → played K s c room (p ∷ []) ≡ stopped s c (Refused 11) (p ∷ [])
   unfolding played

@@ -5,7 +5,7 @@ use mathlib.Core.Path.{_≡_, refl, ap, sym, subst⁻¹, _∙_}
 use native.Mathlib.Omega.{arith}
 use borrow.Author.Tests.{ne-eqb, le-leb, lt-leb}
 use lib.Dec.{T}
-use types.Run.{OneOf, hit, miss}
+use types.Run.{OneOf, miss}
 use denote.Enum.Declared.{tagOf}
 use lib.ListN.{length, length-map, length-append}
 use lib.Seq.{sets, length-sets}
@@ -13,7 +13,8 @@ use Rattle.text.specs.Parts.{firstAt}
 use Rattle.text.specs.Put.{Put}
 use Rattle.text.proofs.Picks.{order}
 use Rattle.text.proofs.Puts.{put-fits, put-short, sets-append}
-use Rattle.text.proofs.Turns.{part-starts}
+use Rattle.text.proofs.Seeking.{part-starts}
+use Rattle.model.specs.Limits.{mostActs}
 use Rattle.model.specs.Tables.{Table}
 use Rattle.model.specs.Rules.{refusal, next}
 use Rattle.model.specs.Cycles.{Verdict, none, kept, dropped, verdict}
@@ -26,21 +27,23 @@ use Rattle.model.proofs.Soundness.{Shaped, Sound, sound-of, of-sound}
 use Rattle.model.proofs.StepsKeep.{step-keeps}
 use Rattle.prepared.specs.Prepared.{tableIn, Prepared}
 use Rattle.prepared.proofs.Stored.{shape}
-use Rattle.waits.specs.Beside.{busyOf, listedOf, busyIn, listedIn}
+use Rattle.conflicts.specs.Busy.{busyOf, busyIn}
+use Rattle.managing.specs.Listed.{listedOf, listedIn}
 use Rattle.report.specs.Rows.{cycleOf, cycleText}
 use Rattle.report.specs.declared.Cycle.{Cycle}
 use Rattle.report.proofs.Lines.{put-length, row-some}
 use Rattle.tally.specs.Tallies.{rulingOf, tallied, Roomy}
 use Rattle.engine.specs.Play.{Played, playedTo, pieces, stopped, telling, onKept, onVerdict, onStep, played, ranOf, Ready, isClosed, Runs}
-use Rattle.engine.specs.Turns.{lineAt}
+use Rattle.engine.specs.Turns.{lineAt, stopOf}
 use Rattle.tally.specs.declared.Tally.{Tally}
 use Rattle.tally.specs.declared.Ruling.{Ruling}
-use Rattle.tally.specs.declared.Ruling.the-variants.{Open, Kept}
+use Rattle.tally.specs.declared.Ruling.the-variants.{Kept}
 use Rattle.engine.specs.declared.Stop.{Stop}
 use Rattle.engine.specs.declared.Stop.the-variants.{End, Refused, Closed}
 use Rattle.engine.specs.declared.Going.{Going}
 use Rattle.engine.specs.declared.Ran.{Ran}
 use Rattle.tally.proofs.Ruling.{the-type}
+use Rattle.engine.proofs.Answers.{stop-refused}
 use Rattle.engine.proofs.Lines.{at-end, at-bad, step-ends, at-step}
 use Rattle.tally.proofs.Tallying.{roomy-one}
 
@@ -66,6 +69,11 @@ pub record Plays (K : Table) (log : List ℕ) (from : ℕ) (s₀ : State) (c₀ 
   pub rows : Rows lent place buf filled
   pub rest : telling (rows .text) (played K s c (length lent - filled) (pieces log at)) ≡ played K s₀ c₀ (length lent - place) (pieces log from)
 
+-- and no line was refused
+pub record Continues (K : Table) (log : List ℕ) (from : ℕ) (s₀ : State) (c₀ : Tally) (lent : List ℕ) (place : ℕ) (s : State) (b l : List ℕ) (c : Tally) (at : ℕ) (buf : List ℕ) (filled n : ℕ) : Type 0 where
+  pub plays : Plays K log from s₀ c₀ lent place s b l c at buf filled
+  pub none : n ≡ 0
+
 -- rows told before nothing, and before a row more
 telling-none : (text : List ℕ) (s : State) (c : Tally) (w : Stop) (ps : List (List ℕ)) → telling text (stopped s c w ps) ≡ playedTo text s c w ps
 telling-none text s c w ps = ap (λ l. playedTo l s c w ps) (append-nil text)
@@ -74,10 +82,10 @@ telling-more : (text row : List ℕ) (p : Played) → telling text (telling row 
 telling-more text row p = ap (λ l. playedTo l (p .state) (p .tally) (p .stop) (p .rest)) (sym (append-assoc text row (p .text)))
 
 module _ {K : Table} {log : List ℕ} {from : ℕ} {s : State} {b l : List ℕ} {c : Tally} {at : ℕ} (H : Stands K log from s b l c at) where
-  pub busy-sized : 64 ≡ length b
+  pub busy-sized : mostActs ≡ length b
   busy-sized = sym (ap length (H .busy) ∙ length-map (s .acts) busyOf ∙ H .sound .shape .acts)
 
-  pub listed-sized : 64 ≡ length l
+  pub listed-sized : mostActs ≡ length l
   listed-sized = sym (ap length (H .listed) ∙ length-map (s .acts) listedOf ∙ H .sound .shape .acts)
 
 -- the buffer keeps its length
@@ -108,11 +116,10 @@ module _ (K : Table) (log : List ℕ) (from : ℕ) (g : Going) {lent : List ℕ}
 module _ (K : Table) (log : List ℕ) (from : ℕ) (g : Going) (lent : List ℕ) (place : ℕ) where
   -- the start
   pub run-starts : Shaped (g .state) → Ready K g → from ≤ length log → Roomy (g .tally) (length log - from) → place ≤ length lent
-      → Plays K log from (g .state) (g .tally) lent place (g .state) (g .busy) (g .listed) (g .tally) from lent place
+      → Continues K log from (g .state) (g .tally) lent place (g .state) (g .busy) (g .listed) (g .tally) from lent place 0
   run-starts h R l m p = record {
-    here = record { within = l; onward = omega arith; sound = sound-of K (g .state) h (R .sound); busy = R .busy; listed = R .listed; roomy = m };
-    rows = record { text = []; fits = omega arith; filled = omega arith; bytes = refl };
-    rest = refl;
+    plays = record { here = record { within = l; onward = omega arith; sound = sound-of K (g .state) h (R .sound); busy = R .busy; listed = R .listed; roomy = m }; rows = record { text = []; fits = omega arith; filled = omega arith; bytes = refl }; rest = refl };
+    none = refl;
   }
 
   module _ {s : State} {b l : List ℕ} {c : Tally} {at : ℕ} {buf : List ℕ} {filled : ℕ} (Z : Plays K log from (g .state) (g .tally) lent place s b l c at buf filled) (r : Ran) where
@@ -122,13 +129,13 @@ module _ (K : Table) (log : List ℕ) (from : ℕ) (g : Going) (lent : List ℕ)
     stops-here w e n = stops-at K log from g (Z .here) (Z .rows) w (ap (telling (Z .rows .text)) (sym e) ∙ Z .rest) n r
 
     -- the log's end
-    pub run-ends : length log ≤ at → r ≡ ranOf s b l c at filled End → Runs K log from g lent place r buf
-    run-ends h = stops-here End (at-end K s c (length lent - filled) log at h) (λ t. absurd t)
+    pub run-ends : length log ≤ at → {n m : ℕ} → n ≡ m → m ≡ 0 → {w : Stop} → w ≡ stopOf n → r ≡ ranOf s b l c at filled w → Runs K log from g lent place r buf
+    run-ends h e z p q = stops-here End (at-end K s c (length lent - filled) log at h) (λ t. absurd t) (q ∙ rw (p, e, z))
 
     -- a line that is not a step
-    pub run-bad : (e : ℕ) → at < length log → e ≡ firstAt log at 10 → (x : Line) → x ≡ lineAt log at e → x ≡ Bad → r ≡ ranOf s b l c at filled (Refused 11)
+    pub run-bad : (e : ℕ) → at < length log → e ≡ firstAt log at 10 → (x : Line) → x ≡ lineAt log at e → x ≡ Bad → {n : ℕ} → n ≡ 11 → {w : Stop} → w ≡ stopOf n → r ≡ ranOf s b l c at filled w
         → Runs K log from g lent place r buf
-    run-bad e h f x q i = stops-here (Refused 11) (at-bad K s c (length lent - filled) log at e h f (sym q ∙ i)) (λ t. absurd t)
+    run-bad e h f x q i z p o = stops-here (Refused 11) (at-bad K s c (length lent - filled) log at e h f (sym q ∙ i)) (λ t. absurd t) (o ∙ rw (p, z))
 
 -- what an accepted step comes to, by its verdict as the code has it
 module _ (s : State) (c : Tally) (room : ℕ) (ls : List (List ℕ)) (go : ℕ → Played) where
@@ -169,15 +176,8 @@ table σ = tableIn (σ .rows) (σ .index)
 abbrev ComesTo : Scene → State → List ℕ → List ℕ → Tally → ℕ → List ℕ → ℕ → Type 0
 ComesTo σ w b l d at buf filled = Plays (table σ) (σ .log) (σ .from) (σ .start .state) (σ .start .tally) (σ .lent) (σ .place) w b l d at buf filled
 
-abbrev pub GoesOn : Scene → State → List ℕ → List ℕ → Tally → Type 0
-GoesOn σ w b l d = ComesTo σ w b l d (σ .newline + 1) (σ .buf) (σ .filled)
-
 abbrev pub StopsAs : Scene → Ran → Type 0
 StopsAs σ r = Runs (table σ) (σ .log) (σ .from) (σ .start) (σ .lent) (σ .place) r (σ .buf)
-
--- it is refused at its line with a number
-abbrev pub RefusedAs : Scene → ℕ → Ran → Type 0
-RefusedAs σ n r = r ≡ ranOf (σ .state) (σ .busy) (σ .listed) (σ .tally) (σ .at) (σ .filled) (Refused n)
 
 -- what all lines come to from the start, the room that is left, and the lines behind the next newline
 abbrev whole : Scene → Played
@@ -248,8 +248,9 @@ module _ {σ : Scene} (Z : Turn σ) where
   played-here = sym (Z .plays .rest) ∙ ap (telling (rows-here .text)) (at-step (table σ) (σ .state) (σ .tally) (left σ) (σ .log) (σ .at) (σ .newline) (Z .inside) (Z .ends) (σ .step) (Z .line))
 
   -- the step is refused
-  pub turn-stops : (n : ℕ) → n ≡ refusal (table σ) (σ .state) (σ .step) → (n ≡ 0 → ⊥) → (r : Ran) → RefusedAs σ n r → StopsAs σ r
-  turn-stops n q z = stops-at (table σ) (σ .log) (σ .from) (σ .start) here rows-here (Refused n) (sym (played-here ∙ rw (← q, ne-eqb n 0 z))) (λ t. absurd t)
+  pub turn-stops : {n : ℕ} → n ≡ refusal (table σ) (σ .state) (σ .step) → (n ≡ 0 → ⊥) → {m : ℕ} → m ≡ n → {w : Stop} → w ≡ stopOf m → {r : Ran} → r ≡ ranOf (σ .state) (σ .busy) (σ .listed) (σ .tally) (σ .at) (σ .filled) w → StopsAs σ r
+  turn-stops {n} q z i p {r} e =
+      stops-at (table σ) (σ .log) (σ .from) (σ .start) here rows-here (Refused n) (sym (played-here ∙ rw (← q, ne-eqb n 0 z))) (λ t. absurd t) r (e ∙ rw (p, i, ← stop-refused n z))
 
 module _ {σ : Scene} {w : State} {b l : List ℕ} {d : Tally} {v : Ruling} (G : Goes σ w b l d v) where
   after : Stands (table σ) (σ .log) (σ .from) w b l d (σ .newline + 1)
@@ -269,11 +270,8 @@ module _ {σ : Scene} {w : State} {b l : List ℕ} {d : Tally} {v : Ruling} (G :
   played-after = played-here (G .turn) ∙ rw (G .accepted, G .state, G .tally)
 
   -- no cycle is kept
-  pub turn-passed : OneOf (0 ∷ 2 ∷ []) (tagOf the-type v) → GoesOn σ w b l d
-  turn-passed h = record { here = after; rows = rows; rest = sym (played-after ∙ ap (telling (rows .text)) (on-passed w d _ _ _ (given σ) (rw (G .ruling) at h))) }
-
-  pub turn-open : v ≡ Open → GoesOn σ w b l d
-  turn-open e = turn-passed (rw e (hit (0 ∷ 2 ∷ []) 0 tt))
+  pub turn-passed : OneOf (0 ∷ 2 ∷ []) (tagOf the-type v) → {n : ℕ} → n ≡ 0 → Continues (table σ) (σ .log) (σ .from) (σ .start .state) (σ .start .tally) (σ .lent) (σ .place) w b l d (σ .newline + 1) (σ .buf) (σ .filled) n
+  turn-passed h z = record { none = z; plays = record { here = after; rows = rows; rest = sym (played-after ∙ ap (telling (rows .text)) (on-passed w d _ _ _ (given σ) (rw (G .ruling) at h))) } }
 
   -- a cycle is kept, and its row asks for room
   module _ (k : Cycle) (i : v ≡ Kept k) (more : ℕ) (buf : List ℕ) (p : Put (σ .buf) (σ .filled) (cycleText k) more buf) where
@@ -298,8 +296,8 @@ module _ {σ : Scene} {w : State} {b l : List ℕ} {d : Tally} {v : Ruling} (G :
         (Closed k) (sym (played-kept ∙ rw (lt-leb _ _ lack))) (λ t. omega (arith, here (G .turn) .onward, onward (G .turn)))
 
     -- it is written, and the run goes on behind it
-    pub turn-told : (more ≡ σ .filled → ⊥) → ComesTo σ w b l d (σ .newline + 1) buf more
-    turn-told n =
+    pub turn-told : (more ≡ σ .filled → ⊥) → {m : ℕ} → m ≡ 0 → Continues (table σ) (σ .log) (σ .from) (σ .start .state) (σ .start .tally) (σ .lent) (σ .place) w b l d (σ .newline + 1) buf more m
+    turn-told n z =
         let fit : σ .filled + length (cycleText k) ≤ length (σ .buf) =
         order (length (σ .buf)) (σ .filled + length (cycleText k)) (λ l. absurd (n (put-short l p .0))) (λ l. l) in
         let u = put-fits fit p in
@@ -307,12 +305,15 @@ module _ {σ : Scene} {w : State} {b l : List ℕ} {d : Tally} {v : Ruling} (G :
         let q : left σ - length (cycleText k) ≡ length (σ .lent) - more = omega (arith, u .0) in
         let room : length (cycleText k) ≤ left σ = omega (arith, size) in
         record {
-          here = after;
-          rows = record {
-            text = rows .text ++ cycleText k;
-            fits = omega (arith, rows .filled, size);
-            filled = omega (arith, rows .filled, u .0);
-            bytes = u .1 ∙ rows-more rows (cycleText k);
+          none = z;
+          plays = record {
+            here = after;
+            rows = record {
+              text = rows .text ++ cycleText k;
+              fits = omega (arith, rows .filled, size);
+              filled = omega (arith, rows .filled, u .0);
+              bytes = u .1 ∙ rows-more rows (cycleText k);
+            };
+            rest = sym (telling-more (rows .text) (cycleText k) _) ∙ sym (played-kept ∙ rw (le-leb _ _ room, q));
           };
-          rest = sym (telling-more (rows .text) (cycleText k) _) ∙ sym (played-kept ∙ rw (le-leb _ _ room, q));
         }

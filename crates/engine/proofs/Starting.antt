@@ -14,7 +14,8 @@ use Rattle.model.specs.Sound.{sound}
 use Rattle.model.specs.declared.Act.{Act}
 use Rattle.model.specs.declared.State.{State}
 use Rattle.model.proofs.Soundness.{fresh-sound}
-use Rattle.waits.specs.Beside.{busyOf, listedOf}
+use Rattle.conflicts.specs.Busy.{busyOf}
+use Rattle.managing.specs.Listed.{listedOf}
 use Rattle.tally.specs.Tallies.{noTally, mostCount, Roomy}
 use Rattle.engine.specs.Play.{Ready}
 use Rattle.engine.specs.Starts.{goingFrom, freshGoing}

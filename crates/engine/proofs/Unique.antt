@@ -9,7 +9,8 @@ use lib.Seq.{sets}
 use Rattle.text.specs.Parts.{joinOn}
 use Rattle.text.proofs.Parts.{join-split}
 use Rattle.model.specs.Tables.{Table}
-use Rattle.waits.specs.Beside.{busyIn, listedIn}
+use Rattle.conflicts.specs.Busy.{busyIn}
+use Rattle.managing.specs.Listed.{listedIn}
 use Rattle.engine.specs.Play.{Played, playedTo, pieces, Ready, Runs}
 use Rattle.engine.specs.declared.Stop.{Stop}
 use Rattle.engine.specs.declared.Going.{Going}

@@ -19,8 +19,9 @@ use Rattle.model.specs.declared.Line.{Line}
 use Rattle.model.specs.declared.Line.the-variants as line
 use Rattle.report.specs.Rows.{cycleOf, cycleText}
 use Rattle.report.specs.declared.Cycle.{Cycle}
-use Rattle.log.specs.Lines.{readStep}
-use Rattle.waits.specs.Beside.{busyIn, listedIn}
+use Rattle.log.specs.Lines.{setDigits, readStep}
+use Rattle.conflicts.specs.Busy.{busyIn}
+use Rattle.managing.specs.Listed.{listedIn}
 use Rattle.tally.specs.Tallies.{tallied, Roomy}
 use Rattle.tally.specs.declared.Tally.{Tally}
 use Rattle.engine.specs.declared.Stop.{Stop}
@@ -85,7 +86,7 @@ onLine K s c room (line.Is x) here rest go = onStep K s c room x here rest go
 unfoldable pub played : Table → State → Tally → ℕ → List (List ℕ) → Played
 played K s c room [] = stopped s c End []
 played K s c room (p ∷ []) = lastLine s c p
-played K s c room (p ∷ q ∷ ps) = onLine K s c room (readStep p) (p ∷ q ∷ ps) (q ∷ ps) (λ w d n. played K w d n (q ∷ ps))
+played K s c room (p ∷ q ∷ ps) = onLine K s c room (readStep setDigits p) (p ∷ q ∷ ps) (q ∷ ps) (λ w d n. played K w d n (q ∷ ps))
 
 -- a run as the code has it
 abbrev pub ranOf : State → List ℕ → List ℕ → Tally → ℕ → ℕ → Stop → Ran

@@ -1,23 +1,16 @@
 // The engine: a log played line after line on a state that is changed in place.
-ghost use mathlib.Core.Bool.{true};
 ghost use mathlib.Core.Path.{_≡_};
 ghost use Prim.Native.Nat.{_-_, _<_, _≤_};
 ghost use lib.ListN.{length};
-ghost use Rattle.text.specs.Set.{bit};
-ghost use Rattle.model.specs.States.{fresh};
-ghost use Rattle.model.specs.Rules.{listed};
 ghost use Rattle.prepared.specs.Prepared.{tableIn, Prepared};
 ghost use Rattle.tally.specs.Tallies.{Roomy};
 ghost use Rattle.engine.specs.Play.{ranOf, Ready, Runs};
-ghost use Rattle.engine.specs.Turns.{lineAt, smNumber, inLists};
+ghost use Rattle.engine.specs.Turns.{lineAt, stopOf};
 ghost use Rattle.engine.specs.Starts.{goingFrom, freshGoing};
-use model::Act;
 use model::Holder;
 use model::Line;
-use model::Place;
 use model::State;
 use model::Step;
-use model::Task;
 use report::Cycle;
 use tally::Ruling;
 use tally::Tally;
@@ -54,51 +47,17 @@ fn line_at(log: &[u8], at: usize, e: usize) -> Line
     if e == log.len() {
         return Line::Bad;
     }
-    log::read_step(&log[at..e])
+    log::read_step(&log[at..e], log::SET_DIGITS)
 }
 
-// `sm` on its task: 12 for a set outside it, 13 unless the manager waits and the signal is set.
-fn sm_number(rows: &[u32], index: &[u32], t: usize, n: u64, r: u64, x: Task) -> u64
-    requires { ⌜ Prepared (now rows) (now index) × (t < tableIn (now rows) (now index) .ntasks) ⌝ }
-    ensures { λ k. ⌜ k ≡ smNumber (tableIn (now (rows .entry)) (now (index .entry))) t n r x ⌝ }
+// Why a run stopped that no row's lack of room stopped: 0 is the log's end, any other number its refusal.
+fn stop_of(refusal: u64) -> Stop
+    ensures { λ r. ⌜ r ≡ stopOf refusal ⌝ }
 {
-    if !waits::is_within(rows, index, t, n) {
-        return 12;
+    if refusal == 0 {
+        return Stop::End;
     }
-    if !waits::is_within(rows, index, t, r) {
-        return 12;
-    }
-    if x.managing {
-        return 13;
-    }
-    if x.signal {
-        return 0;
-    }
-    13
-}
-
-fn has_bit(n: u64, a: usize) -> bool
-    requires { ⌜ a < 64 ⌝ }
-    ensures { λ r. ⌜ r ≡ bit n a ⌝ }
-{
-    (n >> a) % 2 == 1
-}
-
-fn with_flags(y: Act, run: bool, halt: bool) -> Act
-    ensures { λ r. ⌜ r ≡ inLists run halt y ⌝ }
-{
-    let mut v = y;
-    v.run = run;
-    v.halt = halt;
-    records::act_anew(v)
-}
-
-// An activity of an `sm`'s task, put into N and R as the sets n and r say.
-fn flag(n: u64, r: u64, a: usize, y: Act) -> Act
-    requires { ⌜ a < 64 ⌝ }
-    ensures { λ v. ⌜ v ≡ listed true n r a y ⌝ }
-{
-    with_flags(y, has_bit(n, a), has_bit(r, a))
+    Stop::Refused(refusal)
 }
 
 fn left_at(
@@ -146,42 +105,36 @@ pub fn run(
     let mut c = g.tally;
     let mut at = from;
     let mut filled = place;
+    let mut refusal = 0;
     while at < log.len() {
         let e = text::next_byte(log, at, text::NEWLINE);
         let Line::Is(st) = line_at(log, at, e) else {
-            return left_at(s, busy, listed, c, at, filled, Stop::Refused(11));
+            refusal = 11;
+            break;
         };
+        let mut w = Ruling::Open;
         match st {
             Step::Wait(d) => {
-                if !waits::in_range(d) {
-                    return left_at(s, busy, listed, c, at, filled, Stop::Refused(12));
-                }
                 let mut room = true;
                 let mut k = 0;
                 while k < nt {
                     let x = s.tasks[k];
                     let h = x.holder;
-                    let timely = waits::timer_room(rows, index, d, k, x.timer);
-                    room = records::both(room, timely);
-                    k += 1;
-                    match h {
-                        Holder::Manager => {
-                            if records::either(x.managing, x.signal) {
-                                return left_at(s, busy, listed, c, at, filled, Stop::Refused(16));
-                            }
-                        }
-                        Holder::Activity(a) => {
-                            let y = s.acts[a];
-                            if waits::act_hinders(rows, index, &busy, y) {
-                                return left_at(s, busy, listed, c, at, filled, Stop::Refused(16));
-                            }
-                            room = records::both(room, waits::act_room(rows, index, d, y));
-                        }
+                    let mut hinders = records::either(x.managing, x.signal);
+                    room = records::both(room, waits::timer_room(rows, index, d, k, x.timer));
+                    if let Holder::Activity(a) = h {
+                        let y = s.acts[a];
+                        hinders = waits::act_hinders(rows, index, &busy, y);
+                        room = records::both(room, waits::act_room(rows, index, d, y));
                     }
+                    if hinders {
+                        break;
+                    }
+                    k += 1;
                 }
-                let n = waits::wait_number(room, s.date, d);
-                if n != 0 {
-                    return left_at(s, busy, listed, c, at, filled, Stop::Refused(n));
+                refusal = waits::wait_number(nt <= k, room, s.date, d);
+                if refusal != 0 {
+                    break;
                 }
                 let mut m = 0;
                 while m < nt {
@@ -190,97 +143,84 @@ pub fn run(
                     let late = x.timer + d;
                     s.tasks[m].timer = late;
                     m += 1;
-                    match h {
-                        Holder::Manager => {}
-                        Holder::Activity(a) => {
-                            let y = s.acts[a];
-                            let old = records::older_clock(y, d);
-                            s.acts[a].clock = old;
-                        }
+                    if let Holder::Activity(a) = h {
+                        let y = s.acts[a];
+                        let old = records::older_clock(y, d);
+                        s.acts[a].clock = old;
                     }
                 }
                 s.date = s.date + d;
-                at = e + 1;
                 c = tally::after_wait(c);
-                continue;
             }
             Step::Sm(t, n, r) => {
-                if nt <= t {
-                    return left_at(s, busy, listed, c, at, filled, Stop::Refused(12));
+                let i = rules::row_in(t, nt);
+                let x = s.tasks[i];
+                refusal = managing::sm_number(rows, index, t, n, r, x);
+                if refusal != 0 {
+                    break;
                 }
-                let x = s.tasks[t];
-                let k = sm_number(rows, index, t, n, r, x);
-                if k != 0 {
-                    return left_at(s, busy, listed, c, at, filled, Stop::Refused(k));
-                }
-                let end = prepared::acts_end(rows, index, t);
-                let mut a = prepared::acts_begin(rows, index, t);
+                let end = prepared::acts_end(rows, index, i);
+                let mut a = prepared::acts_begin(rows, index, i);
                 while a < end {
                     let y = s.acts[a];
-                    let v = flag(n, r, a, y);
+                    let v = managing::flag(n, r, a, y);
                     s.acts[a] = v;
-                    listed[a] = waits::listed_of(v);
+                    listed[a] = managing::listed_of(v);
                     a += 1;
                 }
                 let u = records::opened_task(s.date, x);
-                s.tasks[t] = u;
-                at = e + 1;
+                s.tasks[i] = u;
                 c = tally::after_sm(c);
-                continue;
             }
             Step::OfTask(t, k) => {
-                if nt <= t {
-                    return left_at(s, busy, listed, c, at, filled, Stop::Refused(12));
-                }
-                let x = s.tasks[t];
-                let empty = waits::is_empty_for(rows, index, &listed, t, k);
+                let i = rules::row_in(t, nt);
+                let x = s.tasks[i];
+                let empty = managing::is_empty_for(rows, index, &listed, i, k);
                 let told = rules::task_step(rows, index, t, k, empty, x);
-                let n = told.number;
-                if n != 0 {
-                    return left_at(s, busy, listed, c, at, filled, Stop::Refused(n));
+                refusal = told.number;
+                if refusal != 0 {
+                    break;
                 }
                 let u = told.task;
-                s.tasks[t] = u;
-                let w = tally::ruling_of(rows, index, t, k, s.date, x);
-                at = e + 1;
+                s.tasks[i] = u;
+                w = tally::ruling_of(rows, index, i, k, s.date, x);
                 c = tally::after_step(c, w);
-                let Ruling::Kept(row) = w else {
-                    continue;
-                };
-                let more = report::put_cycle(buf, filled, row);
-                if more == filled {
-                    return left_at(s, busy, listed, c, at, filled, Stop::Closed(row));
-                }
-                filled = more;
-                continue;
             }
             Step::OfAct(a, k) => {
-                let missing = rules::check_names(rows, index, a, k);
-                if missing != 0 {
-                    return left_at(s, busy, listed, c, at, filled, Stop::Refused(missing));
+                refusal = rules::check_names(rows, index, a, k);
+                if refusal != 0 {
+                    break;
                 }
                 let t = rules::task_in(rows, index, a, k);
                 let x = s.tasks[t];
                 let y = s.acts[a];
                 let p = y.place;
-                let clear = waits::is_clear_for(rows, index, &busy, k, p);
+                let clear = conflicts::is_clear_for(rows, index, &busy, k, p);
                 let told = rules::local_step(rows, index, a, k, clear, x, y);
-                let n = told.number;
-                if n != 0 {
-                    return left_at(s, busy, listed, c, at, filled, Stop::Refused(n));
+                refusal = told.number;
+                if refusal != 0 {
+                    break;
                 }
                 let u = told.task;
                 let v = told.act;
                 s.tasks[t] = u;
                 s.acts[a] = v;
-                busy[a] = waits::busy_of(v);
-                listed[a] = waits::listed_of(v);
-                at = e + 1;
+                busy[a] = conflicts::busy_of(v);
+                listed[a] = managing::listed_of(v);
                 c = tally::after_step(c, Ruling::Open);
             }
         }
+        at = e + 1;
+        let Ruling::Kept(row) = w else {
+            continue;
+        };
+        let more = report::put_cycle(buf, filled, row);
+        if more == filled {
+            return left_at(s, busy, listed, c, at, filled, Stop::Closed(row));
+        }
+        filled = more;
     }
-    left_at(s, busy, listed, c, at, filled, Stop::End)
+    left_at(s, busy, listed, c, at, filled, stop_of(refusal))
 }
 
 // What a run carries that starts at a state, with nothing counted yet.
@@ -292,8 +232,8 @@ pub fn going_from(s: State) -> Going
     let mut a = 0;
     while a < model::MOST_ACTS {
         let y = s.acts[a];
-        busy[a] = waits::busy_of(y);
-        listed[a] = waits::listed_of(y);
+        busy[a] = conflicts::busy_of(y);
+        listed[a] = managing::listed_of(y);
         a += 1;
     }
     Going {
@@ -311,39 +251,9 @@ pub fn going_from(s: State) -> Going
     }
 }
 
-// "Fresh: everything 0 or empty, managers waiting and holding, activities at ether."
-fn fresh_state() -> State
-    ensures { λ r. ⌜ r ≡ fresh ⌝ }
-{
-    let x = Task {
-        timer: 0,
-        signal: false,
-        managing: false,
-        holder: Holder::Manager,
-        cycle: 0,
-        opened: 0,
-        missed: 0,
-        longest: 0,
-    };
-    let y = Act {
-        place: Place::Ether,
-        executing: false,
-        clock: 0,
-        run: false,
-        halt: false,
-    };
-    let tasks = [x; model::MOST_TASKS];
-    let acts = [y; model::MOST_ACTS];
-    State {
-        date: 0,
-        tasks: tasks,
-        acts: acts,
-    }
-}
-
 // Where every log starts.
 pub fn fresh_going() -> Going
     ensures { λ r. ⌜ r ≡ freshGoing ⌝ }
 {
-    going_from(fresh_state())
+    going_from(records::fresh_state())
 }

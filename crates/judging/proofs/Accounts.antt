@@ -17,7 +17,7 @@ use Rattle.model.specs.Cycles.{Verdict, none, kept, dropped, verdict}
 use Rattle.model.specs.declared.State.{State}
 use Rattle.model.specs.declared.Line.{Line}
 use Rattle.model.specs.declared.Line.the-variants as line
-use Rattle.log.specs.Lines.{longestLine, readStep}
+use Rattle.log.specs.Lines.{longestLine, setDigits, readStep}
 use Rattle.report.specs.Rows.{cycleOf, cycleText, sumText}
 use Rattle.report.specs.declared.Cycle.{Cycle}
 use Rattle.tally.specs.Tallies.{tallied, sumOf}
@@ -48,12 +48,12 @@ none-pending (Closed k) l c = absurd (false-true (sym c))
 abbrev pub Ends : Table → State → Tally → List (List ℕ) → Stop → Type 0
 Ends K s c rest w = isClosed w ≡ false → tell K s c rest ≡ sumText (sumOf K s c (refusalOf w))
 
-tell-first : (K : Table) (s : State) (c : Tally) (l : Line) (p q : List ℕ) (ps qs : List (List ℕ)) → readStep p ≡ l
+tell-first : (K : Table) (s : State) (c : Tally) (l : Line) (p q : List ℕ) (ps qs : List (List ℕ)) → readStep setDigits p ≡ l
     → tell K s c (followed (p ∷ q ∷ ps) qs) ≡ tellLines K s c (l ∷ linesIn (followed (q ∷ ps) qs))
 unfolding tell linesIn
 tell-first K s c l p q ps qs e = ap (tellLines K s c) (first ps qs ∙ ap (λ m. m ∷ linesIn (followed (q ∷ ps) qs)) e)
   where
-    first : (ps qs : List (List ℕ)) → linesIn (p ∷ followed (q ∷ ps) qs) ≡ readStep p ∷ linesIn (followed (q ∷ ps) qs)
+    first : (ps qs : List (List ℕ)) → linesIn (p ∷ followed (q ∷ ps) qs) ≡ readStep setDigits p ∷ linesIn (followed (q ∷ ps) qs)
     first [] [] = refl
     first [] (r ∷ qs) = refl
     first (r ∷ ps) qs = refl
@@ -69,7 +69,7 @@ pub record Account (K : Table) (s : State) (c : Tally) (room : ℕ) (ps : List (
   pub short : (k : Cycle) → p .stop ≡ Closed k → room < length (p .text) + length (cycleText k)
 
 -- a line over 63 bytes with its newline is no step
-long-bad : (p q : List ℕ) → longestLine ≤ length p → readStep (p ++ q) ≡ line.Bad
+long-bad : (p q : List ℕ) → longestLine ≤ length p → readStep setDigits (p ++ q) ≡ line.Bad
 unfolding readStep
 long-bad p q h = let l : longestLine < length (p ++ q) + 1 = omega (arith, length-append p q) in rw (lt-ltb _ _ l)
 
@@ -100,7 +100,7 @@ module _ (K : Table) where
       same m q = cc
 
   -- a line with its newline is refused whatever follows
-  at-line : (s : State) (c : Tally) (room : ℕ) (l : Line) (p q : List ℕ) (ps : List (List ℕ)) (n : ℕ) → readStep p ≡ l
+  at-line : (s : State) (c : Tally) (room : ℕ) (l : Line) (p q : List ℕ) (ps : List (List ℕ)) (n : ℕ) → readStep setDigits p ≡ l
       → ((ls : List Line) → tellLines K s c (l ∷ ls) ≡ sumText (sumOf K s c n)) → Account K s c room (p ∷ q ∷ ps) (stopped s c (Refused n) (p ∷ q ∷ ps))
   at-line s c room l p q ps n e f =
       let g : (qs : List (List ℕ)) → tell K s c (followed (p ∷ q ∷ ps) qs) ≡ sumText (sumOf K s c n) = λ qs. tell-first K s c l p q ps qs e ∙ f (linesIn (followed (q ∷ ps) qs)) in
@@ -148,7 +148,7 @@ module _ (K : Table) where
       (λ h. rw h (at-full k e (leb-false _ _ h)))
   on-verdict dropped s c room w d p q ps go e t = at-step e (t room)
 
-  on-line : (l : Line) (s : State) (c : Tally) (room : ℕ) (p q : List ℕ) (ps : List (List ℕ)) → readStep p ≡ l
+  on-line : (l : Line) (s : State) (c : Tally) (room : ℕ) (p q : List ℕ) (ps : List (List ℕ)) → readStep setDigits p ≡ l
       → ((w : State) (d : Tally) (n : ℕ) → Account K w d n (q ∷ ps) (played K w d n (q ∷ ps)))
       → Account K s c room (p ∷ q ∷ ps) (onLine K s c room l (p ∷ q ∷ ps) (q ∷ ps) (λ w d n. played K w d n (q ∷ ps)))
   unfolding tell
@@ -174,7 +174,7 @@ module _ (K : Table) where
   account [] s c room = at-end s c room [] (λ q qs. refl) (tell-none K s c)
   account ([] ∷ []) s c room = at-end s c room ([] ∷ []) (λ q qs. refl) (tell-none K s c)
   account ((b ∷ p) ∷ []) s c room = at-refusal s c room ((b ∷ p) ∷ []) 11 (tell-bad K s c []) (at-long s c b p)
-  account (p ∷ q ∷ ps) s c room = on-line (readStep p) s c room p q ps refl (account (q ∷ ps))
+  account (p ∷ q ∷ ps) s c room = on-line (readStep setDigits p) s c room p q ps refl (account (q ∷ ps))
 
   -- what is told of a run over a log
   module _ {log : List ℕ} {from : ℕ} {g : Going} {buf : List ℕ} {place : ℕ} {r : Ran} {after : List ℕ} (h : Runs K log from g buf place r after) where

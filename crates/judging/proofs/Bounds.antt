@@ -2,13 +2,12 @@
 use Prim.Native.Nat.{ℕ, _+_, _-_, _*_, _/_, _≤_, _<_}
 use mathlib.Core.Bool.{Bool, true, false, cond}
 use mathlib.Core.List.{List, [], _∷_}
-use mathlib.Core.Path.{_≡_, refl, sym, ap, _∙_}
+use mathlib.Core.Path.{_≡_, refl, ap}
 use native.Mathlib.Omega.{arith}
 use lib.Dec.{T, leb, leb→le, eqb, eqb→eq}
 use lib.ListN.{length, getD, length-append}
 use borrow.Author.Tests.{le-leb, lt-leb}
 use Rattle.text.specs.Parts.{splitOn, joinOn}
-use Rattle.text.specs.Set.{setDigits}
 use Rattle.text.specs.Words.{wordIn, wordAt}
 use Rattle.text.specs.Fields.{mostDigits}
 use Rattle.text.specs.declared.Number.the-variants as number
@@ -17,7 +16,7 @@ use Rattle.text.proofs.Picks.{cases}
 use Rattle.text.proofs.Parts.{join-split}
 use Rattle.text.proofs.Words.{word-read}
 use Rattle.text.proofs.Numbers.{digits-read, digits-short, length-digits, width-within}
-use Rattle.text.proofs.Sets.{set-text-read, length-set-text}
+use Rattle.text.proofs.Sets.{set-length}
 use Rattle.model.specs.Tests.{one, each, sum, accepted}
 use Rattle.model.specs.Limits.{mostTasks, mostTicks, ceiling}
 use Rattle.model.specs.Tables.{Table}
@@ -41,7 +40,7 @@ use Rattle.model.proofs.Verdicts.{verdict-at-fm}
 use Rattle.model.proofs.Sums.{sum-bound}
 use Rattle.model.proofs.Balance.{balance, balance-from}
 use Rattle.model.proofs.Reports.{steps-accepted}
-use Rattle.log.specs.Lines.{stepWords, aNumber, aSet, readStep}
+use Rattle.log.specs.Lines.{stepWords, setDigits, aNumber, readStep}
 use Rattle.log.proofs.Words.{nine, nine-words}
 use Rattle.log.proofs.Shapes.{either, Shapes, shaped}
 use Rattle.tally.specs.Tallies.{keepsOne}
@@ -111,9 +110,6 @@ rows-length K F (x ∷ xs) s S ok =
 number-length : (p : List ℕ) (v : ℕ) → aNumber p ≡ number.Is v → 1 ≤ length p
 number-length p v u = omega (arith, ap length (digits-read mostDigits p v u .0), length-digits v, width-within v .0)
 
-set-length : (p : List ℕ) (v : ℕ) → aSet p ≡ number.Is v → length p ≡ 16
-set-length p v u = sym (ap length (set-text-read setDigits p v u .0)) ∙ length-set-text setDigits v
-
 word-length : (w : List ℕ) (k : ℕ) → wordIn stepWords w ≡ word.Is k → 2 ≤ length w
 unfolding each wordAt
 word-length w k u =
@@ -127,7 +123,7 @@ abbrev cost : Step → ℕ
 cost x = 39 * opens x + 5 * one (isFm x)
 
 -- a word and its fields, with a tab before each, and the newline
-costs : Shapes (λ s x. cost x ≤ length s + 1)
+costs : Shapes setDigits (λ s x. cost x ≤ length s + 1)
 costs = record {
   one = λ w p k a i e.
       let n = length (joinOn 9 (w ∷ p ∷ [])) + 1 in
@@ -142,8 +138,8 @@ costs = record {
   manager = λ w p q s k t n r i e f g.
       let h = word-length w k i in
       let l = number-length p t e in
-      let m = set-length q n f in
-      let o = set-length s r g in
+      let m = set-length setDigits q n f in
+      let o = set-length setDigits s r g in
       simp length-append (omega arith);
   leaving = λ w p q k a c i e f. omega arith;
 }
@@ -164,13 +160,13 @@ unfolding linesIn stepsOf openedIn keptIn droppedIn
 steps-cost K [] s = omega arith
 steps-cost K ([] ∷ []) s = omega arith
 steps-cost K ((b ∷ p) ∷ []) s = omega arith
-steps-cost K (p ∷ q ∷ ps) s = rw length-append (go (readStep p) refl (λ w. steps-cost K (q ∷ ps) w))
+steps-cost K (p ∷ q ∷ ps) s = rw length-append (go (readStep setDigits p) refl (λ w. steps-cost K (q ∷ ps) w))
   where
     more : (x : Step) (xs : List Step) → cost x ≤ length p + 1 → taken K (next K s x) xs ≤ length (joinOn 10 (q ∷ ps))
         → taken K s (x ∷ xs) ≤ length p + length (10 ∷ joinOn 10 (q ∷ ps))
     more x xs h l = omega (arith, kept-more (verdict K s x) 0 (keptIn K (next K s x) xs), closes-one (verdict K s x), ap one (verdict-at-fm K s x))
 
-    go : (l : Line) → readStep p ≡ l → ((w : State) → taken K w (stepsOf K w (linesIn (q ∷ ps))) ≤ length (joinOn 10 (q ∷ ps)))
+    go : (l : Line) → readStep setDigits p ≡ l → ((w : State) → taken K w (stepsOf K w (linesIn (q ∷ ps))) ≤ length (joinOn 10 (q ∷ ps)))
         → taken K s (stepsOf K s (l ∷ linesIn (q ∷ ps))) ≤ length p + length (10 ∷ joinOn 10 (q ∷ ps))
     go Bad e f = omega arith
     go (Is x) e f =

@@ -11,7 +11,7 @@ use Rattle.model.specs.States.{fresh}
 use Rattle.model.specs.Tables.{Table}
 use Rattle.model.specs.declared.Line.{Line}
 use Rattle.model.specs.declared.Line.the-variants.{Bad}
-use Rattle.log.specs.Lines.{readStep}
+use Rattle.log.specs.Lines.{setDigits, readStep}
 use Rattle.table.specs.Checks.{Said}
 use Rattle.table.specs.Tables.{tableOf}
 use Rattle.table.specs.Texts.{readTable}
@@ -30,7 +30,7 @@ endLine (b ∷ p) = Bad ∷ []
 unfoldable pub linesIn : List (List ℕ) → List Line
 linesIn [] = []
 linesIn (p ∷ []) = endLine p
-linesIn (p ∷ q ∷ ps) = readStep p ∷ linesIn (q ∷ ps)
+linesIn (p ∷ q ∷ ps) = readStep setDigits p ∷ linesIn (q ∷ ps)
 
 abbrev pub reportText : Report → List ℕ
 reportText r = headText ++ (rowsText (r .kept) ++ sumText (r .sum))

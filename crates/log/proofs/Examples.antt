@@ -4,7 +4,7 @@ use mathlib.Core.Path.{_≡_, refl}
 use mathlib.Core.List.{List, [], _∷_, map}
 use Rattle.text.specs.Digits.{valueOf}
 use Rattle.text.specs.Number.{readNumber}
-use Rattle.text.specs.Set.{readSet}
+use Rattle.text.specs.Set.{readSet, emptySet}
 use Rattle.text.specs.Words.{wordIn}
 use Rattle.text.specs.Fields.{etherWord}
 use Rattle.model.specs.declared.Place.the-variants.{Ether, Codel}
@@ -13,7 +13,7 @@ use Rattle.model.specs.declared.ActStep.the-variants.{Lm, Ia, Ea, Cx, Fa}
 use Rattle.model.specs.declared.Step.the-variants.{Wait, Sm, OfTask, OfAct}
 use Rattle.model.specs.declared.Line.{Line}
 use Rattle.model.specs.declared.Line.the-variants.{Is, Bad}
-use Rattle.log.specs.Lines.{stepWords, readStep, readLine}
+use Rattle.log.specs.Lines.{stepWords, setDigits, readStep, readLine}
 
 -- a line's bytes, and what it says
 abbrev pub examples : List (List ℕ × Line)
@@ -23,7 +23,7 @@ examples =
     -- st 0
     (115 ∷ 116 ∷ 9 ∷ 48 ∷ 10 ∷ [], Is (OfTask 0 St)) ∷
     -- sm 0 0000000000000001 0000000000000000
-    (115 ∷ 109 ∷ 9 ∷ 48 ∷ 9 ∷ 48 ∷ 48 ∷ 48 ∷ 48 ∷ 48 ∷ 48 ∷ 48 ∷ 48 ∷ 48 ∷ 48 ∷ 48 ∷ 48 ∷ 48 ∷ 48 ∷ 48 ∷ 49 ∷ 9 ∷ 48 ∷ 48 ∷ 48 ∷ 48 ∷ 48 ∷ 48 ∷ 48 ∷ 48 ∷ 48 ∷ 48 ∷ 48 ∷ 48 ∷ 48 ∷ 48 ∷ 48 ∷ 48 ∷ 10 ∷ [], Is (Sm 0 1 0)) ∷
+    (115 ∷ 109 ∷ 9 ∷ 48 ∷ 9 ∷ 48 ∷ 48 ∷ 48 ∷ 48 ∷ 48 ∷ 48 ∷ 48 ∷ 48 ∷ 48 ∷ 48 ∷ 48 ∷ 48 ∷ 48 ∷ 48 ∷ 48 ∷ 49 ∷ 9 ∷ 48 ∷ 48 ∷ 48 ∷ 48 ∷ 48 ∷ 48 ∷ 48 ∷ 48 ∷ 48 ∷ 48 ∷ 48 ∷ 48 ∷ 48 ∷ 48 ∷ 48 ∷ 48 ∷ 10 ∷ [], Is (Sm 0 (record { low = 1; high = 0 }) emptySet)) ∷
     -- lm 0 0
     (108 ∷ 109 ∷ 9 ∷ 48 ∷ 9 ∷ 48 ∷ 10 ∷ [], Is (OfAct 0 (Lm 0))) ∷
     -- ea 0 0
@@ -59,6 +59,6 @@ examples =
     []
 
 -- each line reads so
-pub examples-read : map (λ (e : List ℕ × Line). readLine (e .0)) examples ≡ map (λ (e : List ℕ × Line). e .1) examples
+pub examples-read : map (λ (e : List ℕ × Line). readLine setDigits (e .0)) examples ≡ map (λ (e : List ℕ × Line). e .1) examples
 unfolding readLine readStep stepWords etherWord wordIn readNumber readSet valueOf
 examples-read = refl

@@ -4,19 +4,19 @@ use mathlib.Core.Path.{_≡_, refl, sym, ap, _∙_}
 use mathlib.Core.List.{List, [], _∷_}
 use mathlib.Core.Bool.{true}
 use native.Mathlib.Omega.{arith}
-use lib.Dec.{eqb}
 use Rattle.text.specs.Parts.{splitOn, joinOn, free}
 use Rattle.text.specs.Words.{sameList}
-use Rattle.text.specs.Set.{setDigits}
 use Rattle.text.specs.Fields.{mostDigits, etherWord}
 use Rattle.text.specs.declared.Number.{Number}
 use Rattle.text.specs.declared.Number.the-variants.{Is, Bad}
+use Rattle.text.specs.declared.Set.{Set}
+use Rattle.text.specs.declared.SetField.the-variants as set
 use Rattle.text.proofs.Picks.{cases}
 use Rattle.text.proofs.Parts.{join-split, split-join}
 use Rattle.text.proofs.Words.{same-list}
 use Rattle.text.proofs.Numbers.{digits-read, digits-free}
 use Rattle.text.proofs.Sets.{set-text-read, set-text-free}
-use Rattle.log.specs.Lines.{aNumber, aSet, aPlace, byForm, only}
+use Rattle.log.specs.Lines.{aNumber, aSet, aPlace, only}
 
 -- a field reads or does not
 pub on-number : {P : Type 0} (n : Number) → ((v : ℕ) → n ≡ Is v → P) → (n ≡ Bad → P) → P
@@ -27,23 +27,16 @@ on-number Bad f g = g refl
 abbrev pub Tabless : (List ℕ → Number) → Type 0
 Tabless form = (p : List ℕ) (v : ℕ) → form p ≡ Is v → free 9 p ≡ true
 
-number-tabless : Tabless aNumber
+pub number-tabless : Tabless aNumber
 number-tabless p v u = rw (← digits-read mostDigits p v u .0) (digits-free 9 v (omega arith))
 
-set-tabless : Tabless aSet
-set-tabless p v u = rw (← set-text-read setDigits p v u .0) (set-text-free 9 setDigits v (omega arith))
+pub set-tabless : (d : ℕ) (p : List ℕ) (v : Set) → aSet d p ≡ set.Is v → free 9 p ≡ true
+set-tabless d p v u = rw (← set-text-read d p v u .0) (set-text-free 9 d v (omega arith))
 
-place-tabless : Tabless aPlace
+pub place-tabless : Tabless aPlace
 unfolding etherWord
 place-tabless p v u =
     cases (sameList p etherWord) (λ e. rw (same-list p etherWord e)) (λ e. number-tabless p v (rw e at u))
-
--- whatever its form
-pub tabless : (form : ℕ) → Tabless (byForm form)
-tabless form p v u =
-    cases (eqb form 0)
-    (λ e. number-tabless p v (rw e at u))
-    (λ e. cases (eqb form 1) (λ f. set-tabless p v (rw (e, f) at u)) (λ f. place-tabless p v (rw (e, f) at u)))
 
 -- a text that is cut into one field is that field
 pub only-whole : (form : List ℕ → Number) → Tabless form → (s : List ℕ) → only form (splitOn 9 s) ≡ form s

@@ -1,6 +1,8 @@
 pub mod Words
 pub mod Forms
-pub mod Turns
+pub mod Lists
+pub mod Fielding
+pub mod Reading
 pub mod Shapes
 pub mod Bounds
 pub mod Examples

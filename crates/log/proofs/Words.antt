@@ -14,7 +14,7 @@ use Rattle.text.specs.declared.Word.the-variants.{Is, Unknown}
 use Rattle.text.proofs.Picks.{cases, passed, false-true}
 use Rattle.text.proofs.Parts.{join-split}
 use Rattle.text.proofs.Words.{same-list, word-written}
-use Rattle.text.proofs.Turns.{same-short}
+use Rattle.text.proofs.Alike.{same-short}
 use Rattle.model.specs.declared.Step.the-variants.{Wait}
 use Rattle.model.specs.declared.Line.{Line}
 use Rattle.model.specs.declared.Line.the-variants as line
@@ -79,9 +79,9 @@ tabbed x =
     sym (unlike (x ∷ 9 ∷ []) (simp no))
 
 -- a word with no field behind it is no step
-bare : (w : Word) → line.Bad ≡ onWord w []
-bare Unknown = refl
-bare (Is k) =
+bare : (d : ℕ) (w : Word) → line.Bad ≡ onWord d w []
+bare d Unknown = refl
+bare d (Is k) =
     on (eqb k 2) refl (on (eqb k 3) refl (on (eqb k 5) refl (on (eqb k 7) refl refl)))
   where
     on : (b : Bool) {x y : Line} → line.Bad ≡ x → line.Bad ≡ y → line.Bad ≡ pick b x y
@@ -89,26 +89,26 @@ bare (Is k) =
     on false e f = f
 
 -- a line that begins neither with `wait` and a tab nor with two letters and a tab is no step
-pub begins : (s : List ℕ) → ((q : List ℕ) → s ≡ wait ++ 9 ∷ q → ⊥) → ((x y : ℕ) (q : List ℕ) → s ≡ x ∷ y ∷ 9 ∷ q → ⊥) → line.Bad ≡ stepIn (splitOn 9 s)
-begins s f g = from (splitOn 9 s) (sym (join-split 9 s))
+pub begins : (d : ℕ) (s : List ℕ) → ((q : List ℕ) → s ≡ wait ++ 9 ∷ q → ⊥) → ((x y : ℕ) (q : List ℕ) → s ≡ x ∷ y ∷ 9 ∷ q → ⊥) → line.Bad ≡ stepIn d (splitOn 9 s)
+begins d s f g = from (splitOn 9 s) (sym (join-split 9 s))
   where
-    behind : (w q : List ℕ) (ps : List (List ℕ)) → s ≡ w ++ 9 ∷ q → sameList w wait ≡ false → line.Bad ≡ onWord (wordIn stepWords w) ps
+    behind : (w q : List ℕ) (ps : List (List ℕ)) → s ≡ w ++ 9 ∷ q → sameList w wait ≡ false → line.Bad ≡ onWord d (wordIn stepWords w) ps
     behind [] q ps e t = rw (wordless [] t (λ l. omega arith))
     behind (x ∷ []) q ps e t = rw (wordless (x ∷ []) t (λ l. omega arith))
     behind (x ∷ y ∷ []) q ps e t = absurd (g x y q e)
     behind (x ∷ y ∷ z ∷ w) q ps e t = rw (wordless (x ∷ y ∷ z ∷ w) t (λ l. omega arith))
 
-    from : (ps : List (List ℕ)) → s ≡ joinOn 9 ps → line.Bad ≡ stepIn ps
+    from : (ps : List (List ℕ)) → s ≡ joinOn 9 ps → line.Bad ≡ stepIn d ps
     from [] e = refl
-    from (w ∷ []) e = bare (wordIn stepWords w)
+    from (w ∷ []) e = bare d (wordIn stepWords w)
     from (w ∷ m ∷ ls) e =
         cases (sameList w wait)
         (λ t. absurd (f (joinOn 9 (m ∷ ls)) (rw (same-list w wait t) at e)))
         (behind w (joinOn 9 (m ∷ ls)) (m ∷ ls) e)
 
 -- one that does begin with two letters and a tab
-pub short : (x y : ℕ) (t : List ℕ) → stepIn (splitOn 9 (x ∷ y ∷ 9 ∷ t)) ≡ onWord (wordIn stepWords (x ∷ y ∷ [])) (splitOn 9 t)
-short x y t =
+pub short : (d x y : ℕ) (t : List ℕ) → stepIn d (splitOn 9 (x ∷ y ∷ 9 ∷ t)) ≡ onWord d (wordIn stepWords (x ∷ y ∷ [])) (splitOn 9 t)
+short d x y t =
     cases (eqb x 9)
     (λ e.
     let no = letterless 9 y (λ l. omega arith) (λ l. omega arith) (λ l. omega arith) (λ l. omega arith) (λ l. omega arith) (λ l. omega arith) in
@@ -121,5 +121,5 @@ short x y t =
     (λ f. rw (e, f)))
 
 -- and one that begins with `wait` and a tab
-pub waiting : (t : List ℕ) → stepIn (splitOn 9 (wait ++ 9 ∷ t)) ≡ given (only aNumber (splitOn 9 t)) (λ a. line.Is (Wait a))
-waiting t = rw (word-place 0 (omega arith))
+pub waiting : (d : ℕ) (t : List ℕ) → stepIn d (splitOn 9 (wait ++ 9 ∷ t)) ≡ given (only aNumber (splitOn 9 t)) (λ a. line.Is (Wait a))
+waiting d t = rw (word-place 0 (omega arith))

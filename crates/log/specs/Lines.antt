@@ -5,11 +5,13 @@ use lib.ListN.{length, take}
 use lib.Dec.{ltb, eqb}
 use Rattle.text.specs.Parts.{pick, splitOn, firstAt}
 use Rattle.text.specs.Number.{readNumber}
-use Rattle.text.specs.Set.{readSet, setDigits}
+use Rattle.text.specs.Set.{readSet}
 use Rattle.text.specs.Words.{wordIn}
 use Rattle.text.specs.Fields.{mostDigits, readTarget}
 use Rattle.text.specs.declared.Number.{Number}
 use Rattle.text.specs.declared.Number.the-variants as number
+use Rattle.text.specs.declared.SetField.{SetField}
+use Rattle.text.specs.declared.SetField.the-variants as set
 use Rattle.text.specs.declared.Word.{Word}
 use Rattle.text.specs.declared.Word.the-variants as word
 use Rattle.model.specs.Tables.{targetOf}
@@ -29,12 +31,16 @@ longestLine = 63
 unfoldable pub stepWords : List ℕ
 stepWords = 119 ∷ 97 ∷ 105 ∷ 116 ∷ 9 ∷ 115 ∷ 116 ∷ 9 ∷ 115 ∷ 109 ∷ 9 ∷ 108 ∷ 109 ∷ 9 ∷ 105 ∷ 97 ∷ 9 ∷ 101 ∷ 97 ∷ 9 ∷ 99 ∷ 120 ∷ 9 ∷ 102 ∷ 97 ∷ 9 ∷ 102 ∷ 109 ∷ []
 
--- a field as a number, as a set, as a codel or `ether`
+-- how many digits a set has; what a line says is stated over any number of them
+abbrev pub setDigits : ℕ
+setDigits = 16
+
+-- a field as a number, as a set of d digits, as a codel or `ether`
 abbrev pub aNumber : List ℕ → Number
 aNumber p = readNumber mostDigits p
 
-abbrev pub aSet : List ℕ → Number
-aSet p = readSet setDigits p
+abbrev pub aSet : ℕ → List ℕ → SetField
+aSet d p = readSet d p
 
 abbrev pub aPlace : List ℕ → Number
 aPlace p = readTarget p
@@ -61,16 +67,20 @@ oneNumber ps go = given (only aNumber ps) (λ a. Is (go a))
 abbrev pub twoNumbers : List (List ℕ) → (ℕ → ℕ → Step) → Line
 twoNumbers ps go = headed aNumber ps λ a qs. oneNumber qs (go a)
 
--- `sm` task N R
-abbrev pub managerLine : List (List ℕ) → Line
-managerLine ps =
-    headed aNumber ps λ t qs.
-    headed aSet qs λ n rs.
-    given (only aSet rs) (λ r. Is (Sm t n r))
+-- `sm` task N R: behind the task just two fields, both sets
+abbrev pub manages : ℕ → SetField → SetField → Line
+manages t (set.Is n) (set.Is r) = Is (Sm t n r)
+manages t (set.Is n) set.Bad = Bad
+manages t set.Bad r = Bad
 
--- a field by the code of its form
-abbrev pub byForm : ℕ → List ℕ → Number
-byForm form p = pick (eqb form 0) (aNumber p) (pick (eqb form 1) (aSet p) (aPlace p))
+abbrev pub setsLine : ℕ → ℕ → List (List ℕ) → Line
+setsLine d t [] = Bad
+setsLine d t (p ∷ []) = Bad
+setsLine d t (p ∷ q ∷ []) = manages t (aSet d p) (aSet d q)
+setsLine d t (p ∷ q ∷ o ∷ ps) = Bad
+
+abbrev pub managerLine : ℕ → List (List ℕ) → Line
+managerLine d ps = headed aNumber ps λ t qs. setsLine d t qs
 
 -- `fa` A target
 abbrev pub leavingLine : List (List ℕ) → Line
@@ -86,26 +96,26 @@ abbrev pub twoOf : ℕ → ℕ → ℕ → Step
 twoOf k a b = pick (eqb k 3) (OfAct b (Lm a)) (OfAct a (Ea (Codel b)))
 
 -- the step of a word with its fields
-abbrev pub stepOf : ℕ → List (List ℕ) → Line
-stepOf k ps =
-    pick (eqb k 2) (managerLine ps)
+abbrev pub stepOf : ℕ → ℕ → List (List ℕ) → Line
+stepOf d k ps =
+    pick (eqb k 2) (managerLine d ps)
     (pick (eqb k 3) (twoNumbers ps (twoOf k))
     (pick (eqb k 5) (twoNumbers ps (twoOf k))
     (pick (eqb k 7) (leavingLine ps)
     (oneNumber ps (oneOf k)))))
 
-abbrev pub onWord : Word → List (List ℕ) → Line
-onWord (word.Is k) ps = stepOf k ps
-onWord word.Unknown ps = Bad
+abbrev pub onWord : ℕ → Word → List (List ℕ) → Line
+onWord d (word.Is k) ps = stepOf d k ps
+onWord d word.Unknown ps = Bad
 
-abbrev pub stepIn : List (List ℕ) → Line
-stepIn [] = Bad
-stepIn (w ∷ ps) = onWord (wordIn stepWords w) ps
+abbrev pub stepIn : ℕ → List (List ℕ) → Line
+stepIn d [] = Bad
+stepIn d (w ∷ ps) = onWord d (wordIn stepWords w) ps
 
--- what a line says, without its newline
-unfoldable pub readStep : List ℕ → Line
-readStep s = pick (ltb longestLine (length s + 1)) Bad (stepIn (splitOn 9 s))
+-- what a line says, without its newline, where sets have d digits
+unfoldable pub readStep : ℕ → List ℕ → Line
+readStep d s = pick (ltb longestLine (length s + 1)) Bad (stepIn d (splitOn 9 s))
 
 -- what the bytes of one line say, its newline with them: "line over 63 bytes with its newline, line without newline, or not a step"
-unfoldable pub readLine : List ℕ → Line
-readLine s = pick (eqb (firstAt s 0 10 + 1) (length s)) (readStep (take (length s - 1) s)) Bad
+unfoldable pub readLine : ℕ → List ℕ → Line
+readLine d s = pick (eqb (firstAt s 0 10 + 1) (length s)) (readStep d (take (length s - 1) s)) Bad

@@ -4,12 +4,12 @@ ghost use mathlib.Core.List.{[], _∷_};
 ghost use Prim.Native.Nat.{_+_, _≤_, _<_};
 ghost use lib.ListN.{length, take};
 ghost use lib.Dec.{eqb};
-ghost use Rattle.text.specs.Parts.{pick, partsFrom};
+ghost use Rattle.text.specs.Parts.{pick, splitOn, partsFrom};
 ghost use Rattle.text.specs.Words.{wordIn};
 ghost use Rattle.text.specs.Fields.{behind};
 ghost use Rattle.text.specs.declared.Word.the-variants.{Is, Unknown};
 ghost use Rattle.model.specs.Tables.{targetOf};
-ghost use Rattle.log.specs.Lines.{stepWords, byForm, only, oneNumber, oneOf, twoNumbers, twoOf, managerLine, leavingLine, onWord, readStep, readLine};
+ghost use Rattle.log.specs.Lines.{stepWords, aNumber, only, oneNumber, oneOf, twoNumbers, twoOf, setsLine, managerLine, leavingLine, onWord, readStep, readLine};
 use model::ActStep;
 use model::Line;
 use model::Place;
@@ -17,17 +17,14 @@ use model::Step;
 use model::TaskStep;
 use text::Got;
 use text::Number;
+use text::SetField;
 use text::Word;
 
 // The longest line, with its newline.
 pub const LONGEST_LINE: usize = 63;
 
-// The codes of a field's forms: a number, a set, a place.
-const DECIMAL: u8 = 0;
-
-const HEX: u8 = 1;
-
-const TARGET: u8 = 2;
+// How many digits a set has. The readers take the number; whoever reads a line gives it.
+pub const SET_DIGITS: usize = 16;
 
 // The word of a number, where its last letter is the one read.
 fn ended(y: u8, last: u8, k: usize) -> Word
@@ -70,42 +67,29 @@ fn two_letters(x: u8, y: u8) -> Word
     Word::Unknown
 }
 
-// What a field says, read by the code of its form.
-fn read_form(p: &[u8], form: u8) -> Number
-    ensures { λ r. ⌜ r ≡ byForm form (now (p .entry)) ⌝ }
-{
-    if form == DECIMAL {
-        return text::read_number(p, text::MOST_DIGITS);
-    }
-    if form == HEX {
-        return text::read_set(p);
-    }
-    text::read_target(p)
-}
-
-// What the only field behind the tab at a place says.
-fn only_field(line: &[u8], at: usize, form: u8) -> Number
+// What the only field behind the tab at a place says as a number.
+fn only_field(line: &[u8], at: usize) -> Number
     requires { ⌜ at ≤ length (now line) ⌝ }
-    ensures { λ r. ⌜ r ≡ only (byForm form) (partsFrom 9 (now (line .entry)) (at + 1)) ⌝ }
+    ensures { λ r. ⌜ r ≡ only aNumber (partsFrom 9 (now (line .entry)) (at + 1)) ⌝ }
 {
     if line.len() <= at {
         return Number::Bad;
     }
     let a = at + 1;
-    read_form(&line[a..], form)
+    text::read_number(&line[a..], text::MOST_DIGITS)
 }
 
-// What the field behind the tab at a place says, and where it ends.
-fn head_field(line: &[u8], at: usize, form: u8) -> Got
+// What the field behind the tab at a place says as a number, and where it ends.
+fn head_field(line: &[u8], at: usize) -> Got
     requires { ⌜ at ≤ length (now line) ⌝ }
-    ensures { λ r. ⌜ r ≡ behind (byForm form) (now (line .entry)) at ⌝ }
+    ensures { λ r. ⌜ r ≡ behind aNumber (now (line .entry)) at ⌝ }
 {
     if line.len() <= at {
         return Got::Bad;
     }
     let a = at + 1;
     let e = text::next_byte(line, a, text::TAB);
-    let Number::Is(v) = read_form(&line[a..e], form) else {
+    let Number::Is(v) = text::read_number(&line[a..e], text::MOST_DIGITS) else {
         return Got::Bad;
     };
     Got::Is(v, e)
@@ -130,21 +114,41 @@ fn with_one(k: usize, a: u64) -> Step
     Step::OfTask(a as usize, TaskStep::Fm)
 }
 
-// `sm` task N R, behind its word.
-fn read_manager(line: &[u8], at: usize) -> Line
-    requires { ⌜ at ≤ length (now line) ⌝ }
-    ensures { λ r. ⌜ r ≡ managerLine (partsFrom 9 (now (line .entry)) (at + 1)) ⌝ }
+// N and R of an `sm`, all that stands behind its task: two sets with a tab between them.
+fn read_sets(s: &[u8], t: u64, digits: usize) -> Line
+    ensures { λ r. ⌜ r ≡ setsLine digits t (splitOn 9 (now (s .entry))) ⌝ }
 {
-    let Got::Is(t, p) = head_field(line, at, DECIMAL) else {
+    if s.len() <= digits {
+        return Line::Bad;
+    }
+    if s.len() - digits - 1 != digits {
+        return Line::Bad;
+    }
+    if s[digits] != text::TAB {
+        return Line::Bad;
+    }
+    let SetField::Is(n) = text::read_set(&s[..digits], digits) else {
         return Line::Bad;
     };
-    let Got::Is(n, q) = head_field(line, p, HEX) else {
-        return Line::Bad;
-    };
-    let Number::Is(r) = only_field(line, q, HEX) else {
+    let SetField::Is(r) = text::read_set(&s[digits + 1..], digits) else {
         return Line::Bad;
     };
     Line::Is(Step::Sm(t as usize, n, r))
+}
+
+// `sm` task N R, behind its word.
+fn read_manager(line: &[u8], at: usize, digits: usize) -> Line
+    requires { ⌜ at ≤ length (now line) ⌝ }
+    ensures { λ r. ⌜ r ≡ managerLine digits (partsFrom 9 (now (line .entry)) (at + 1)) ⌝ }
+{
+    let Got::Is(t, p) = head_field(line, at) else {
+        return Line::Bad;
+    };
+    if line.len() <= p {
+        return Line::Bad;
+    }
+    let a = p + 1;
+    read_sets(&line[a..], t, digits)
 }
 
 // A codel's number or ether.
@@ -162,10 +166,14 @@ fn read_leaving(line: &[u8], at: usize) -> Line
     requires { ⌜ at ≤ length (now line) ⌝ }
     ensures { λ r. ⌜ r ≡ leavingLine (partsFrom 9 (now (line .entry)) (at + 1)) ⌝ }
 {
-    let Got::Is(a, p) = head_field(line, at, DECIMAL) else {
+    let Got::Is(a, p) = head_field(line, at) else {
         return Line::Bad;
     };
-    let Number::Is(c) = only_field(line, p, TARGET) else {
+    if line.len() <= p {
+        return Line::Bad;
+    }
+    let q = p + 1;
+    let Number::Is(c) = text::read_target(&line[q..]) else {
         return Line::Bad;
     };
     Line::Is(Step::OfAct(a as usize, ActStep::Fa(place_of(c))))
@@ -176,10 +184,10 @@ fn read_two(line: &[u8], at: usize, k: usize) -> Line
     requires { ⌜ at ≤ length (now line) ⌝ }
     ensures { λ r. ⌜ r ≡ twoNumbers (partsFrom 9 (now (line .entry)) (at + 1)) (twoOf k) ⌝ }
 {
-    let Got::Is(a, p) = head_field(line, at, DECIMAL) else {
+    let Got::Is(a, p) = head_field(line, at) else {
         return Line::Bad;
     };
-    let Number::Is(b) = only_field(line, p, DECIMAL) else {
+    let Number::Is(b) = only_field(line, p) else {
         return Line::Bad;
     };
     if k == 3 {
@@ -193,31 +201,31 @@ fn read_one(line: &[u8], at: usize, k: usize) -> Line
     requires { ⌜ at ≤ length (now line) ⌝ }
     ensures { λ r. ⌜ r ≡ oneNumber (partsFrom 9 (now (line .entry)) (at + 1)) (oneOf k) ⌝ }
 {
-    let Number::Is(a) = only_field(line, at, DECIMAL) else {
+    let Number::Is(a) = only_field(line, at) else {
         return Line::Bad;
     };
     Line::Is(with_one(k, a))
 }
 
 // What a line says whose word has two letters.
-fn read_short(line: &[u8]) -> Line
+fn read_short(line: &[u8], digits: usize) -> Line
     requires { ⌜ 2 < length (now line) ⌝ }
-    ensures { λ r. ⌜ r ≡ onWord (wordIn stepWords (take 2 (now (line .entry)))) (partsFrom 9 (now (line .entry)) 3) ⌝ }
+    ensures { λ r. ⌜ r ≡ onWord digits (wordIn stepWords (take 2 (now (line .entry)))) (partsFrom 9 (now (line .entry)) 3) ⌝ }
 {
     let Word::Is(k) = two_letters(line[0], line[1]) else {
         return Line::Bad;
     };
     match k {
-        2 => read_manager(line, 2),
+        2 => read_manager(line, 2, digits),
         3 | 5 => read_two(line, 2, k),
         7 => read_leaving(line, 2),
         _ => read_one(line, 2, k),
     }
 }
 
-// What a line says, without its newline: its word has two letters or is `wait`.
-pub fn read_step(line: &[u8]) -> Line
-    ensures { λ r. ⌜ r ≡ readStep (now (line .entry)) ⌝ }
+// What a line says, without its newline, where sets have so many digits: its word has two letters or is `wait`.
+pub fn read_step(line: &[u8], digits: usize) -> Line
+    ensures { λ r. ⌜ r ≡ readStep digits (now (line .entry)) ⌝ }
 {
     let n = line.len();
     if LONGEST_LINE <= n {
@@ -227,7 +235,7 @@ pub fn read_step(line: &[u8]) -> Line
         return Line::Bad;
     }
     if line[2] == text::TAB {
-        return read_short(line);
+        return read_short(line, digits);
     }
     if n < 5 {
         return Line::Bad;
@@ -235,19 +243,19 @@ pub fn read_step(line: &[u8]) -> Line
     if !text::same(&line[..5], b"wait\t") {
         return Line::Bad;
     }
-    let Number::Is(a) = only_field(line, 4, DECIMAL) else {
+    let Number::Is(a) = only_field(line, 4) else {
         return Line::Bad;
     };
     Line::Is(Step::Wait(a))
 }
 
 // What the bytes of one line say, its newline with them.
-pub fn read_line(s: &[u8]) -> Line
-    ensures { λ r. ⌜ r ≡ readLine (now (s .entry)) ⌝ }
+pub fn read_line(s: &[u8], digits: usize) -> Line
+    ensures { λ r. ⌜ r ≡ readLine digits (now (s .entry)) ⌝ }
 {
     let e = text::next_byte(s, 0, text::NEWLINE);
     if e + 1 != s.len() {
         return Line::Bad;
     }
-    read_step(&s[..e])
+    read_step(&s[..e], digits)
 }

@@ -4,6 +4,7 @@ use mathlib.Core.Path.{_≡_, refl}
 use Prim.Native.Nat.{ℕ, _+_, _≤_, _<_}
 use borrow.Author.Tests.{eq-eqb}
 use lib.Dec.{T, leb, ltb, eqb, leb→le, le→leb, ltb→lt, lt→ltb, eqb→eq}
+use Rattle.text.specs.declared.Set.{Set}
 use Rattle.model.specs.Tests.{_and_, _or_}
 use Rattle.model.specs.Limits.{inRange, ceiling}
 use Rattle.model.specs.Tables.{Table, isEther, known}
@@ -27,7 +28,7 @@ pub record StGoes (K : Table) (s : State) (t : ℕ) : Type 0 where
   pub due : taskAt s t .timer ≡ K .period t
 
 -- `sm`: sets within the task, the manager waiting, the signal set
-pub record SmGoes (K : Table) (s : State) (t n r : ℕ) : Type 0 where
+pub record SmGoes (K : Table) (s : State) (t : ℕ) (n r : Set) : Type 0 where
   pub inT : t < K .ntasks
   pub withinN : T (within K t n)
   pub withinR : T (within K t r)
@@ -109,7 +110,7 @@ module _ (K : Table) (s : State) where
       need-mk (ltb t (K .ntasks)) 12 _ (lt→ltb _ _ (g .inT))
       (need-mk (eqb (taskAt s t .timer) (K .period t)) 14 0 (true-T _ (eq-eqb _ _ (g .due))) refl)
 
-  pub sm-goes : (t n r : ℕ) → smRefusal K s t n r ≡ 0 → SmGoes K s t n r
+  pub sm-goes : (t : ℕ) (n r : Set) → smRefusal K s t n r ≡ 0 → SmGoes K s t n r
   sm-goes t n r ok =
       let x = taskAt s t in
       let f12 = need-of (ltb t (K .ntasks) and within K t n and within K t r) 12 _ tt ok in
@@ -119,7 +120,7 @@ module _ (K : Table) (s : State) where
       let opens = and-both (not (x .managing)) _ (f13 .0) in
       record { inT = ltb→lt _ _ (rows .0); withinN = sets .0; withinR = sets .1; waits = opens .0; signal = opens .1 }
 
-  pub goes-sm : (t n r : ℕ) → SmGoes K s t n r → smRefusal K s t n r ≡ 0
+  pub goes-sm : (t : ℕ) (n r : Set) → SmGoes K s t n r → smRefusal K s t n r ≡ 0
   goes-sm t n r g =
       let x = taskAt s t in
       need-mk (ltb t (K .ntasks) and within K t n and within K t r) 12 _ (and-i (ltb t (K .ntasks)) _ (lt→ltb _ _ (g .inT)) (and-i (within K t n) _ (g .withinN) (g .withinR)))

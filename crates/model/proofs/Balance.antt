@@ -10,7 +10,8 @@ use Rattle.model.specs.Tests.{one, sum, accepted}
 use Rattle.model.specs.Tables.{Table}
 use Rattle.model.specs.Rows.{wellformed}
 use Rattle.model.specs.States.{noTask, noAct, fresh, taskAt, actAt}
-use Rattle.model.specs.Rules.{entered, rested, held, anew, signalled, managed, listed, again, stopOf, outOfR, iaTo, begun, closed, timed, waitNext, refusal, next}
+use Rattle.model.specs.Records.{withActs}
+use Rattle.model.specs.Rules.{entered, rested, held, putTask, anew, signalled, managed, listed, again, stopOf, outOfR, iaTo, begun, closed, timed, waitNext, refusal, next}
 use Rattle.model.specs.Logs.{allAccepted, reached}
 use Rattle.model.specs.Cycles.{KeptRow, Verdict, none, kept, dropped, verdict, isFm, isVerdict, opens, openedIn, withKept, keptIn, drops, droppedIn, managing}
 use Rattle.model.specs.declared.Task.{Task}
@@ -41,7 +42,7 @@ one-more dropped rs = omega arith
 
 module _ (K : Table) (F : Formed K) (s : State) (S : Sound K s) where
   -- one task's record anew
-  set-managing : (t : ℕ) → t < K .ntasks → (z : Task) (l : List Act) → managing K (record { date = s .date; tasks = set (s .tasks) t z; acts = l }) + one (taskAt s t .managing) ≡ managing K s + one (z .managing)
+  set-managing : (t : ℕ) → t < K .ntasks → (z : Task) (l : List Act) → managing K (withActs l (putTask s t z)) + one (taskAt s t .managing) ≡ managing K s + one (z .managing)
   unfolding managing
   set-managing t ht z l =
       let f : ℕ → ℕ = λ u. one (getD (set (s .tasks) t z) u noTask .managing) in

@@ -1,7 +1,7 @@
 -- The [p] bench cases of document 01 under one statement, and table K's log, each decided by computation.
 use mathlib.Core.Bool.{true}
 use mathlib.Core.Path.{_≡_, refl}
-use Rattle.text.specs.Set.{bit}
+use Rattle.text.specs.Set.{bit, member, eachOf}
 use Rattle.model.specs.Tests.{each, some, sum}
 use Rattle.model.specs.Tables.{edgeIs, hasEdge, safe}
 use Rattle.model.specs.Rows.{lastFault, wellformed}
@@ -22,10 +22,10 @@ M-wellformed = refl
 
 -- every case holds
 pub bench : benchHolds tableK tableM ≡ true
-unfolding allHold benchCases holdsIn pastToo tableK tableM allAccepted reached refusal next anew first within bit noneIn urgentTask urgentAct urgent roomFor each some clear safe hasEdge edgeIs
+unfolding allHold benchCases holdsIn pastToo tableK tableM allAccepted reached refusal next anew first within member eachOf bit noneIn urgentTask urgentAct urgent roomFor each some clear safe hasEdge edgeIs
 bench = refl
 
 -- K's whole log is accepted, and its report is the one that the page prints; `most` is 11
 pub K-report : report tableK fresh (linesOf logK) ≡ reportK
-unfolding linesOf report reportK logK tableK stepsOf stopOn verdict openedIn keptIn droppedIn managing sum most reached refusal next anew first within bit noneIn urgentTask urgentAct urgent roomFor each some clear safe hasEdge edgeIs
+unfolding linesOf report reportK logK tableK stepsOf stopOn verdict openedIn keptIn droppedIn managing sum most reached refusal next anew first within member eachOf bit noneIn urgentTask urgentAct urgent roomFor each some clear safe hasEdge edgeIs
 K-report = refl

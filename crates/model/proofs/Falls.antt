@@ -1,20 +1,22 @@
 -- Every accepted step but a wait lowers the weight of a sound state, which is at most 6 for each task and each activity.
-use mathlib.Core.Bool.{Bool, true, false, not}
+use mathlib.Core.Bool.{Bool, true, false, not, cond}
 use mathlib.Core.Path.{_≡_, refl, ap, subst, subst⁻¹, _∙_}
 use mathlib.Core.List.{List}
 use Prim.Native.Nat.{ℕ, _+_, _*_, _≤_, _<_}
 use native.Mathlib.Omega.{arith}
 use native.Mathlib.Nat.{le-refl}
 use borrow.Author.Tests.{eq-eqb, ne-eqb}
-use lib.Dec.{T, leb, eqb, le→leb, lit≤}
+use lib.Dec.{T, leb, eqb, le→leb, lit≤, T-not}
 use lib.ListN.{length, getD, set}
 use lib.Seq.{getD-set-same}
+use Rattle.text.specs.declared.Set.{Set}
 use Rattle.model.specs.Tests.{_and_, _or_, one, sum}
 use Rattle.model.specs.Tables.{Table, isEther, safe}
 use Rattle.model.specs.States.{noTask, noAct, taskAt, actAt, byManager, heldBy, holds, stands}
-use Rattle.model.specs.Rules.{entered, rested, held, putBoth, anew, stRefusal, signalled, stNext, smRefusal, managed, listed, smNext, lmRefusal, again, lmNext, iaRefusal, stopOf, outOfR, iaTo, iaNext, eaAllowed, eaRefusal, eaNext, cxRefusal, begun, cxNext, faRefusal, faNext, fmRefusal, closed, fmNext, refusal, next}
+use Rattle.model.specs.Records.{withActs}
+use Rattle.model.specs.Rules.{entered, rested, held, putTask, putBoth, anew, stRefusal, signalled, stNext, smRefusal, managed, listed, smNext, lmRefusal, again, lmNext, iaRefusal, stopOf, outOfR, iaTo, iaNext, eaAllowed, eaRefusal, eaNext, cxRefusal, begun, cxNext, faRefusal, faNext, fmRefusal, closed, fmNext, refusal, next}
 use Rattle.model.specs.Logs.{isWait}
-use Rattle.model.specs.Weight.{rounds, weightTask, left, weightAct, taskSum, actSum, weight}
+use Rattle.model.specs.Weight.{rounds, weightTask, leftAt, left, weightAct, taskSum, actSum, weight}
 use Rattle.model.specs.declared.Task.{Task}
 use Rattle.model.specs.declared.Act.{Act}
 use Rattle.model.specs.declared.State.{State}
@@ -25,7 +27,7 @@ use Rattle.model.specs.declared.TaskStep.the-variants.{St, Fm}
 use Rattle.model.specs.declared.ActStep.the-variants.{Lm, Ia, Ea, Cx, Fa}
 use Rattle.model.specs.declared.Step.{Step}
 use Rattle.model.specs.declared.Step.the-variants.{Wait, Sm, OfTask, OfAct}
-use Rattle.model.proofs.Tests.{T-true, and-i, and-l, and-r, or-l, or-r}
+use Rattle.model.proofs.Tests.{T-true, T-false, and-i, and-l, and-r, and-both, or-l, or-r}
 use Rattle.model.proofs.Rows.{set-cases}
 use Rattle.model.proofs.Formed.{Formed}
 use Rattle.model.proofs.Soundness.{Sound, held-is, manager-is}
@@ -41,62 +43,80 @@ one-le false = lit≤ tt
 one-T : (b : Bool) → T b → one b ≡ 1
 one-T b t = ap one (T-true b t)
 
--- a managing manager that holds, and what an activity y has left under its task's record x
+-- a managing manager that holds
 abbrev manages : Task → ℕ
 manages x = one ((x .managing) and byManager (x .holder))
 
-abbrev leftOf : ℕ → Task → Act → ℕ
-leftOf a x y = left (heldBy (x .holder) a) (y .run) (y .halt) (y .place) (y .executing) (y .clock)
+-- of two numbers, each at most a third
+cond-le : (b : Bool) (m n k : ℕ) → m ≤ k → n ≤ k → cond b m n ≤ k
+cond-le true m n k h i = h
+cond-le false m n k h i = i
 
--- nothing has more than 2 left
-left-le : (h r l : Bool) (p : Place) (e : Bool) (k : ℕ) → left h r l p e k ≤ 2
-left-le false r l p e k = omega (arith, one-le (r or l))
-left-le true r true p e k = lit≤ tt
-left-le true r false Ether e k = lit≤ tt
-left-le true r false (Codel c) false k = lit≤ tt
-left-le true r false (Codel c) true k = omega (arith, one-le (leb 1 k))
+-- an activity a, whose record is y and whose task's record is x
+module _ (a : ℕ) (x : Task) (y : Act) where
+  -- none has more than 2 left
+  left-le : left a x y ≤ 2
+  left-le = cond-le (heldBy (x .holder) a) (cond (y .halt) 2 (leftAt y (y .place))) _ 2 (cond-le (y .halt) 2 (leftAt y (y .place)) 2 (lit≤ tt) (at (y .place))) (omega (arith, one-le ((y .run) or (y .halt))))
+    where
+      at : (p : Place) → leftAt y p ≤ 2
+      at Ether = lit≤ tt
+      at (Codel c) = cond-le (y .executing) (2 * one (leb 1 (y .clock))) 1 2 (omega (arith, one-le (leb 1 (y .clock)))) (lit≤ tt)
 
--- a holder in R, at ether, or executing since a tick has 2 left
-left-two : (h r l : Bool) (p : Place) (e : Bool) (k : ℕ) → T h → T (l or isEther p or (e and leb 1 k)) → left h r l p e k ≡ 2
-left-two false r l p e k u w = absurd u
-left-two true r true p e k u w = refl
-left-two true r false Ether e k u w = refl
-left-two true r false (Codel c) true k u w = ap (λ n. 2 * n) (one-T (leb 1 k) w)
-left-two true r false (Codel c) false k u w = absurd w
+  -- one that holds
+  module _ (h : T (heldBy (x .holder) a)) where
+    -- in R, at ether, or executing since a tick it has 2 left
+    left-two : T ((y .halt) or isEther (y .place) or ((y .executing) and leb 1 (y .clock))) → left a x y ≡ 2
+    left-two w = rw (T-true (heldBy (x .holder) a) h) (at (y .halt) (y .place) w)
+      where
+        at : (l : Bool) (p : Place) → T (l or isEther p or ((y .executing) and leb 1 (y .clock))) → cond l 2 (leftAt y p) ≡ 2
+        at true p w = refl
+        at false Ether w = refl
+        at false (Codel c) w = let e = and-both (y .executing) _ w in rw (T-true (y .executing) (e .0), T-true (leb 1 (y .clock)) (e .1))
 
--- one that enters a codel has at most 1 left
-enter-left : (h r l : Bool) (c : ℕ) (e : Bool) → T h → T (not l) → left h r l (Codel c) e 0 ≤ 1
-enter-left false r l c e u v = absurd u
-enter-left true r true c e u v = absurd v
-enter-left true r false c true u v = lit≤ tt
-enter-left true r false c false u v = lit≤ tt
+    -- `ea` may move it: it has 2 left
+    ea-left : (K : Table) (c : ℕ) → T (eaAllowed K y a c (y .place)) → T (isEther (y .place) or leb 1 (y .clock)) → left a x y ≡ 2
+    ea-left K c v w = left-two (or-r (y .halt) _ (at (y .place) v w))
+      where
+        at : (p : Place) → T (eaAllowed K y a c p) → T (isEther p or leb 1 (y .clock)) → T (isEther p or ((y .executing) and leb 1 (y .clock)))
+        at Ether v w = tt
+        at (Codel d) v w = and-i (y .executing) _ (and-l (y .executing) _ v) w
 
--- one that stood has less left when it executes
-cx-left : (K : Table) (h r l : Bool) (p : Place) (e : Bool) (k : ℕ) → T h → T (not l) → T (stands K (record { place = p; executing = e; clock = k; run = r; halt = l }) p) → left h r l p true 0 + 1 ≤ left h r l p e k
-cx-left K false r l p e k u v w = absurd u
-cx-left K true r true p e k u v w = absurd v
-cx-left K true r false Ether e k u v w = absurd w
-cx-left K true r false (Codel c) true k u v w = absurd (and-r (not (safe K c)) _ w)
-cx-left K true r false (Codel c) false k u v w = lit≤ tt
+    -- not in R
+    module _ (n : T (not (y .halt))) where
+      -- what it has left is told by its place
+      running : (z : Act) → z .halt ≡ y .halt → left a x z ≡ leftAt z (z .place)
+      running z e = at (heldBy (x .holder) a) (z .halt) h (subst⁻¹ (λ l. T (not l)) e n)
+        where
+          at : (h l : Bool) → T h → T (not l) → cond h (cond l 2 (leftAt z (z .place))) (2 * one ((z .run) or (z .halt))) ≡ leftAt z (z .place)
+          at true false h n = refl
+          at true true h n = absurd n
+          at false l h n = absurd h
 
--- one that `ea` may move had 2 left
-ea-left : (K : Table) (a c : ℕ) (h r l : Bool) (p : Place) (e : Bool) (k : ℕ) → T h → T (eaAllowed K (record { place = p; executing = e; clock = k; run = r; halt = l }) a c p) → T (isEther p or leb 1 k) → left h r l p e k ≡ 2
-ea-left K a c h r l Ether e k u v w = left-two h r l Ether e k u (or-r l _ tt)
-ea-left K a c h r l (Codel d) e k u v w = left-two h r l (Codel d) e k u (or-r l _ (and-i e _ (and-l e _ v) w))
+      -- entering a codel it has at most 1 left
+      enter-left : (K : Table) (c : ℕ) → left a x (entered K c y) ≤ 1
+      enter-left K c = omega (arith, running (entered K c y) refl, cond-le (safe K c) 0 1 1 (lit≤ tt) (lit≤ tt))
+
+      -- where it stood it has less left when it executes
+      cx-left : (K : Table) → T (stands K y (y .place)) → left a x (begun y) + 1 ≤ left a x y
+      cx-left K w = omega (arith, running (begun y) refl, running y refl, at (y .place) w)
+        where
+          at : (p : Place) → T (stands K y p) → leftAt (begun y) p + 1 ≤ leftAt y p
+          at Ether w = absurd w
+          at (Codel c) w = rw (T-false (y .executing) (T-not (y .executing) (and-r (not (safe K c)) _ w))) (lit≤ tt)
 
 -- at most 6 for each task and 6 for each activity
 pub weight-bound : (K : Table) (s : State) → weight K s ≤ K .ntasks * 6 + K .nacts * 6
 unfolding taskSum actSum
 weight-bound K s =
     let u = sum-bound (K .ntasks) 6 (λ t. weightTask (K .period t) (taskAt s t)) (λ t h. let x = taskAt s t in omega (arith, one-le (x .signal), one-le (eqb (x .timer) (K .period t)), one-le ((x .managing) and byManager (x .holder)))) in
-    let v = sum-bound (K .nacts) 6 (λ a. weightAct (K .period (K .task a)) a (taskAt s (K .task a)) (actAt s a)) (λ a h. let x = taskAt s (K .task a) in let y = actAt s a in omega (arith, one-le (x .signal), one-le (eqb (x .timer) (K .period (K .task a))), left-le (heldBy (x .holder) a) (y .run) (y .halt) (y .place) (y .executing) (y .clock))) in
+    let v = sum-bound (K .nacts) 6 (λ a. weightAct (K .period (K .task a)) a (taskAt s (K .task a)) (actAt s a)) (λ a h. let x = taskAt s (K .task a) in let y = actAt s a in omega (arith, one-le (x .signal), one-le (eqb (x .timer) (K .period (K .task a))), left-le a x y)) in
     omega arith
 
 module _ (K : Table) (F : Formed K) (s : State) (S : Sound K s) where
   -- one task's record anew
   module _ (t : ℕ) (ht : t < K .ntasks) (x : Task) where
     -- only its own summand changes
-    task-swap : (l : List Act) → taskSum K (record { date = s .date; tasks = set (s .tasks) t x; acts = l }) + weightTask (K .period t) (taskAt s t) ≤ taskSum K s + weightTask (K .period t) x
+    task-swap : (l : List Act) → taskSum K (withActs l (putTask s t x)) + weightTask (K .period t) (taskAt s t) ≤ taskSum K s + weightTask (K .period t) x
     unfolding taskSum
     task-swap l =
         let f : ℕ → ℕ = λ u. weightTask (K .period u) (getD (set (s .tasks) t x) u noTask) in
@@ -108,7 +128,7 @@ module _ (K : Table) (F : Formed K) (s : State) (S : Sound K s) where
     falls-wide : (l : List Act) → weightTask (K .period t) x + 1 ≤ weightTask (K .period t) (taskAt s t)
         → ((b : ℕ) → b < K .nacts → K .task b ≡ t → weightAct (K .period t) b x (getD l b noAct) ≤ weightAct (K .period t) b (taskAt s t) (actAt s b))
         → ((b : ℕ) → b < K .nacts → (K .task b ≡ t → ⊥) → getD l b noAct ≡ actAt s b)
-        → weight K (record { date = s .date; tasks = set (s .tasks) t x; acts = l }) + 1 ≤ weight K s
+        → weight K (withActs l (putTask s t x)) + 1 ≤ weight K s
     unfolding actSum
     falls-wide l d ours theirs =
         let p : ℕ → ℕ = λ b. weightAct (K .period (K .task b)) b (getD (set (s .tasks) t x) (K .task b) noTask) (getD l b noAct) in
@@ -123,7 +143,7 @@ module _ (K : Table) (F : Formed K) (s : State) (S : Sound K s) where
 
   -- a task handed over, with one of its activities' records: both together weigh less
   module _ (t a : ℕ) (ht : t < K .ntasks) (ha : a < K .nacts) (ta : K .task a ≡ t) (x : Task) (y : Act) where
-    falls-both : Handed a (taskAt s t) x → manages x + leftOf a x y + 1 ≤ manages (taskAt s t) + leftOf a (taskAt s t) (actAt s a) → weight K (putBoth s t x a y) + 1 ≤ weight K s
+    falls-both : Handed a (taskAt s t) x → manages x + left a x y + 1 ≤ manages (taskAt s t) + left a (taskAt s t) (actAt s a) → weight K (putBoth s t x a y) + 1 ≤ weight K s
     unfolding actSum
     falls-both hand d =
         let p : ℕ → ℕ = λ b. weightAct (K .period (K .task b)) b (getD (set (s .tasks) t x) (K .task b) noTask) (getD (set (s .acts) a y) b noAct) in
@@ -155,8 +175,8 @@ module _ (K : Table) (F : Formed K) (s : State) (S : Sound K s) where
       let free : x .holder ≡ Manager = manager-is (x .holder) (g .holds) in
       let m : manages x ≡ 1 = one-T ((x .managing) and byManager (x .holder)) (and-i (x .managing) _ (g .managing) (g .holds)) in
       let m′ : manages (held (Activity a) 0 x) ≡ 0 = rw (T-true (x .managing) (g .managing)) in
-      let l : leftOf a x y ≡ 2 = rw (free, T-true ((y .run) or (y .halt)) (g .listed)) in
-      falls-both t a (g .inT) (g .inA) (g .task) (held (Activity a) 0 x) y′ (handed-to a 0 x free) (omega (arith, m, m′, l, left-le (eqb a a) (y′ .run) (y′ .halt) (y′ .place) (y′ .executing) (y′ .clock)))
+      let l : left a x y ≡ 2 = rw (free, T-true ((y .run) or (y .halt)) (g .listed)) in
+      falls-both t a (g .inT) (g .inA) (g .task) (held (Activity a) 0 x) y′ (handed-to a 0 x free) (omega (arith, m, m′, l, left-le a (held (Activity a) 0 x) y′))
 
   -- an activity that holds, and its task
   module _ (a : ℕ) (ha : a < K .nacts) (hh : T (holds K s a)) where
@@ -167,19 +187,19 @@ module _ (K : Table) (F : Formed K) (s : State) (S : Sound K s) where
     y = actAt s a
 
     -- it gives the task back with 2 left
-    give-falls : (k : ℕ) (p : Place) → leftOf a x y ≡ 2 → weight K (putBoth s (K .task a) (held Manager k x) a (rested p)) + 1 ≤ weight K s
+    give-falls : (k : ℕ) (p : Place) → left a x y ≡ 2 → weight K (putBoth s (K .task a) (held Manager k x) a (rested p)) + 1 ≤ weight K s
     give-falls k p l = falls-both (K .task a) a (F .task a ha) ha refl (held Manager k x) (rested p) (given-back a k x (held-is (x .holder) a hh)) (omega (arith, one-le ((x .managing) and true), l))
 
     -- it goes on holding with less left
-    go-falls : (z : Task) (w : Act) → Handed a x z → z .holder ≡ x .holder → leftOf a x w + 1 ≤ leftOf a x y → weight K (putBoth s (K .task a) z a w) + 1 ≤ weight K s
+    go-falls : (z : Task) (w : Act) → Handed a x z → z .holder ≡ x .holder → left a x w + 1 ≤ left a x y → weight K (putBoth s (K .task a) z a w) + 1 ≤ weight K s
     go-falls z w hand e d = falls-both (K .task a) a (F .task a ha) ha refl z w hand (rw (← hand .managing, e) (omega arith))
 
     ia-falls-to : T (y .halt) → (q : Place) → weight K (iaTo K s a q) + 1 ≤ weight K s
-    ia-falls-to l q = go q (left-two (heldBy (x .holder) a) (y .run) (y .halt) (y .place) (y .executing) (y .clock) hh (or-l (y .halt) _ l))
+    ia-falls-to l q = go q (left-two a x y hh (or-l (y .halt) _ l))
       where
-        go : (q : Place) → leftOf a x y ≡ 2 → weight K (iaTo K s a q) + 1 ≤ weight K s
+        go : (q : Place) → left a x y ≡ 2 → weight K (iaTo K s a q) + 1 ≤ weight K s
         go Ether e = give-falls 0 Ether e
-        go (Codel c) e = go-falls x (entered K c (outOfR y)) (held-on a x) refl (omega (arith, e, enter-left (heldBy (x .holder) a) (y .run) false c (safe K c) hh tt))
+        go (Codel c) e = go-falls x (entered K c (outOfR y)) (held-on a x) refl (omega (arith, e, enter-left a x (outOfR y) hh tt K c))
 
   ia-falls : (a : ℕ) → iaRefusal K s a ≡ 0 → weight K (iaNext K s a) + 1 ≤ weight K s
   ia-falls a ok = let g = ia-goes K s a ok in ia-falls-to a (g .inA) (g .holds) (g .inR) (stopOf K a)
@@ -188,14 +208,14 @@ module _ (K : Table) (F : Formed K) (s : State) (S : Sound K s) where
   fa-falls a p ok =
       let g = fa-goes K s a p ok in
       let y = actAt s a in
-      give-falls a (g .inA) (g .holds) (y .clock) p (left-two (holds K s a) (y .run) (y .halt) (y .place) (y .executing) (y .clock) (g .holds) (or-r (y .halt) _ (or-r (isEther (y .place)) _ (and-i (y .executing) _ (g .executing) (le→leb _ _ (g .clock))))))
+      give-falls a (g .inA) (g .holds) (y .clock) p (left-two a (taskAt s (K .task a)) y (g .holds) (or-r (y .halt) _ (or-r (isEther (y .place)) _ (and-i (y .executing) _ (g .executing) (le→leb _ _ (g .clock))))))
 
   cx-falls : (a : ℕ) → cxRefusal K s a ≡ 0 → weight K (cxNext K s a) + 1 ≤ weight K s
   cx-falls a ok =
       let g = cx-goes K s a ok in
       let x = taskAt s (K .task a) in
       let y = actAt s a in
-      go-falls a (g .inA) (g .holds) x (begun y) (held-on a x) refl (cx-left K (holds K s a) (y .run) (y .halt) (y .place) (y .executing) (y .clock) (g .holds) (g .notR) (g .stands))
+      go-falls a (g .inA) (g .holds) x (begun y) (held-on a x) refl (cx-left a x y (g .holds) (g .notR) K (g .stands))
 
   ea-falls : (a c : ℕ) → eaRefusal K s a (Codel c) ≡ 0 → weight K (eaNext K s a (Codel c)) + 1 ≤ weight K s
   ea-falls a c ok =
@@ -203,7 +223,7 @@ module _ (K : Table) (F : Formed K) (s : State) (S : Sound K s) where
       let x = taskAt s (K .task a) in
       let y = actAt s a in
       go-falls a (g .inA) (g .holds) (held (x .holder) (y .clock) x) (entered K c y) (held-longer a (y .clock) x) refl
-      (omega (arith, ea-left K a c (holds K s a) (y .run) (y .halt) (y .place) (y .executing) (y .clock) (g .holds) (g .allowed) (g .clock), enter-left (holds K s a) (y .run) (y .halt) c (safe K c) (g .holds) (g .notR)))
+      (omega (arith, ea-left a x y (g .holds) K c (g .allowed) (g .clock), enter-left a x y (g .holds) (g .notR) K c))
 
   st-falls : (t : ℕ) → stRefusal K s t ≡ 0 → weight K (stNext s t) + 1 ≤ weight K s
   st-falls t ok =
@@ -220,14 +240,14 @@ module _ (K : Table) (F : Formed K) (s : State) (S : Sound K s) where
       let m : manages x ≡ 1 = one-T ((x .managing) and byManager (x .holder)) (and-i (x .managing) _ (g .managing) (g .holds)) in
       falls-wide t (g .inT) (closed x) (s .acts) (omega arith) (λ b hb e. le-refl _) (λ b hb n. refl)
 
-  sm-falls : (t n r : ℕ) → smRefusal K s t n r ≡ 0 → weight K (smNext K s t n r) + 1 ≤ weight K s
+  sm-falls : (t : ℕ) (n r : Set) → smRefusal K s t n r ≡ 0 → weight K (smNext K s t n r) + 1 ≤ weight K s
   sm-falls t n r ok =
       let g = sm-goes K s t n r ok in
       let x = taskAt s t in
       let sg : one (x .signal) ≡ 1 = one-T (x .signal) (g .signal) in
       let put : ℕ → Act → Act = λ b. listed (eqb (K .task b) t) n r b in
       falls-wide t (g .inT) (managed (s .date) x) (anew (K .nacts) put noAct (s .acts)) (omega (arith, one-le (byManager (x .holder))))
-      (λ b hb e. let w = getD (anew (K .nacts) put noAct (s .acts)) b noAct in omega (arith, left-le (heldBy (x .holder) b) (w .run) (w .halt) (w .place) (w .executing) (w .clock)))
+      (λ b hb e. let w = getD (anew (K .nacts) put noAct (s .acts)) b noAct in omega (arith, left-le b (managed (s .date) x) w))
       (λ b hb e. anew-acts K F s S put b hb ∙ ap (λ z. listed z n r b (actAt s b)) (ne-eqb _ _ e))
 
   -- every accepted step but a wait lowers the weight

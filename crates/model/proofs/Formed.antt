@@ -18,7 +18,6 @@ use Rattle.model.proofs.Tests.{true-T, and-i, and-l, and-r, and-both, e
 pub record Formed (K : Table) : Type 0 where
   pub period : (t : ℕ) → t < K .ntasks → 1 ≤ K .period t
   pub periodHigh : (t : ℕ) → t < K .ntasks → K .period t ≤ mostTicks
-  pub keepHigh : (t : ℕ) → t < K .ntasks → K .keep t ≤ mostTicks
   pub task : (a : ℕ) → a < K .nacts → K .task a < K .ntasks
   pub owner : (c : ℕ) → c < K .ncodels → K .owner c < K .nacts
   pub limitLow : (c : ℕ) → c < K .ncodels → 1 ≤ K .limit c
@@ -162,7 +161,6 @@ module _ (K : Table) (wf : T (wellformed K)) where
   formed = record {
     period = λ t h. leb→le 1 _ (and-l (leb 1 (K .period t)) _ (and-l (inRange (K .period t)) _ (and-r (ltb t mostTasks) _ (task-fine t h))));
     periodHigh = λ t h. leb→le _ _ (and-r (leb 1 (K .period t)) _ (and-l (inRange (K .period t)) _ (and-r (ltb t mostTasks) _ (task-fine t h))));
-    keepHigh = λ t h. leb→le _ _ (and-r (leb 1 (K .keep t)) _ (and-r (inRange (K .period t)) _ (and-r (ltb t mostTasks) _ (task-fine t h))));
     task = λ a h. act-fine a h .1;
     owner = λ c h. codel-fine c h .1;
     limitLow = λ c h. leb→le 1 _ (and-l (leb 1 (K .limit c)) _ (codel-fine c h .0));

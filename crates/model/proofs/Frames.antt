@@ -1,8 +1,7 @@
 -- What a sound state keeps where a task's record, or a task's and one of its activities', or every activity's is written anew.
 use mathlib.Core.Bool.{not}
-use mathlib.Core.Path.{_≡_, refl, ap, sym, subst, subst⁻¹, subst₂, _∙_}
+use mathlib.Core.Path.{_≡_, refl, ap, sym, subst⁻¹, subst₂, _∙_}
 use mathlib.Core.Logic.{_⊎_, inl, inr, ⊎-elim}
-use mathlib.Core.List.{List}
 use Prim.Native.Nat.{ℕ, _≤_, _<_}
 use native.Mathlib.Omega.{arith}
 use borrow.Author.Tests.{ne-eqb}
@@ -12,8 +11,9 @@ use Rattle.model.specs.Tests.{_and_, _implies_}
 use Rattle.model.specs.Limits.{mostTasks, mostActs}
 use Rattle.model.specs.Tables.{Table, rowClear, safe}
 use Rattle.model.specs.States.{noTask, noAct, taskAt, actAt, heldBy, runs, executes, clear}
+use Rattle.model.specs.Records.{withActs}
 use Rattle.model.specs.Rules.{held, putTask, putBoth, anew}
-use Rattle.model.specs.Sound.{fine, fineAct, fineTask, apart, isFreshTask, isFreshAct}
+use Rattle.model.specs.Sound.{fineAct, fineTask, apart, isFreshTask, isFreshAct}
 use Rattle.model.specs.declared.Task.{Task}
 use Rattle.model.specs.declared.Act.{Act}
 use Rattle.model.specs.declared.State.{State}
@@ -21,7 +21,8 @@ use Rattle.model.specs.declared.Holder.the-variants.{Manager, Activity}
 use Rattle.model.proofs.Tests.{and-i, and-l, and-r, imp-i, imp-e, each-at, each-mk}
 use Rattle.model.proofs.Rows.{set-cases, anew-past, anew-at}
 use Rattle.model.proofs.Formed.{Formed}
-use Rattle.model.proofs.Soundness.{Sound}
+use Rattle.model.proofs.Soundness.{Sound, FineAct, of-act, FineTask, of-task, fine-in}
+use Rattle.model.proofs.Sentences.{fine-same}
 use Rattle.model.proofs.Shapes.{task-shaped, both-shaped}
 
 -- z is x but for the holder, among the manager and the activity a, and for what counts a cycle
@@ -44,10 +45,6 @@ held-on a x = record { managing = refl; signal = refl; timer = refl; others = λ
 -- so too with a longest clock
 pub held-longer : (a k : ℕ) (x : Task) → Handed a x (held (x .holder) k x)
 held-longer a k x = record { managing = refl; signal = refl; timer = refl; others = λ b n. refl }
-
--- another task's record with the same manager and the same holding by b
-fine-same : (K : Table) (b : ℕ) (x z : Task) (y : Act) → x .managing ≡ z .managing → heldBy (x .holder) b ≡ heldBy (z .holder) b → T (fineAct K b x y) → T (fineAct K b z y)
-fine-same K b x z y p q t = subst₂ (λ m h. T (fine K b m h (y .run) (y .halt) (y .place) (y .executing) (y .clock))) p q t
 
 -- a thread-safe codel is clear of conflicts
 pub safe-clear : (K : Table) (s : State) (c : ℕ) → T (safe K c) → T (clear K s c)
@@ -74,19 +71,19 @@ module _ (K : Table) (F : Formed K) (s : State) (S : Sound K s) where
 
   -- one task's record anew: the tasks' rows, and those past the count
   module _ (t : ℕ) (ht : t < K .ntasks) (x : Task) where
-    pub set-tasks : T (fineTask K (s .date) t x) → (u : ℕ) → u < K .ntasks → T (fineTask K (s .date) u (getD (set (s .tasks) t x) u noTask))
-    set-tasks fx u hu = set-cases (λ w. T (fineTask K (s .date) u w)) (s .tasks) t x noTask u (in-tasks t ht) (λ e. subst⁻¹ (λ v. T (fineTask K (s .date) v x)) e fx) (λ n. S .tasks u hu)
+    pub set-tasks : FineTask K (s .date) t x → (u : ℕ) → u < K .ntasks → T (fineTask K (s .date) u (getD (set (s .tasks) t x) u noTask))
+    set-tasks fx u hu = set-cases (λ w. T (fineTask K (s .date) u w)) (s .tasks) t x noTask u (in-tasks t ht) (λ e. subst⁻¹ (λ v. T (fineTask K (s .date) v x)) e (of-task K (s .date) t x fx)) (λ n. S .tasks u hu)
 
     pub set-past : (u : ℕ) → K .ntasks ≤ u → u < mostTasks → T (isFreshTask (getD (set (s .tasks) t x) u noTask))
     set-past u l h = set-cases (λ w. T (isFreshTask w)) (s .tasks) t x noTask u (in-tasks t ht) (λ e. absurd (omega arith)) (λ n. S .restT u l h)
 
     -- a task's record alone, where its activities' sentences go on holding
-    pub keep-task : T (fineTask K (s .date) t x) → ((b : ℕ) → b < K .nacts → K .task b ≡ t → T (fineAct K b x (actAt s b))) → Sound K (putTask s t x)
+    pub keep-task : FineTask K (s .date) t x → ((b : ℕ) → b < K .nacts → K .task b ≡ t → FineAct K b x (actAt s b)) → Sound K (putTask s t x)
     keep-task fx own = record {
       shape = task-shaped s (S .shape) t x;
       date = S .date;
       tasks = set-tasks fx;
-      acts = λ b hb. set-cases (λ z. T (fineAct K b z (actAt s b))) (s .tasks) t x noTask (K .task b) (in-tasks t ht) (own b hb) (λ n. S .acts b hb);
+      acts = λ b hb. set-cases (λ z. T (fineAct K b z (actAt s b))) (s .tasks) t x noTask (K .task b) (in-tasks t ht) (λ e. of-act K b x (actAt s b) (own b hb e)) (λ n. S .acts b hb);
       pairs = S .pairs;
       restT = set-past;
       restA = S .restA;
@@ -104,15 +101,15 @@ module _ (K : Table) (F : Formed K) (s : State) (S : Sound K s) where
         (λ n v. inl v)
 
     -- the state stays sound where the new records have their sentences and what begins to execute is clear of conflicts
-    pub keep-both : Handed a (taskAt s t) x → T (fineTask K (s .date) t x) → T (fineAct K a x y) → ((c : ℕ) → T (runs y c) → T (runs (actAt s a) c) ⊎ T (clear K s c)) → Sound K after
+    pub keep-both : Handed a (taskAt s t) x → FineTask K (s .date) t x → FineAct K a x y → ((c : ℕ) → T (runs y c) → T (runs (actAt s a) c) ⊎ T (clear K s c)) → Sound K after
     keep-both hand fx fy new = record {
       shape = both-shaped s (S .shape) t x a y;
       date = S .date;
       tasks = set-tasks t ht x fx;
       acts = λ b hb. set-cases (λ w. T (fineAct K b (taskAt after (K .task b)) w)) (s .acts) a y noAct b (in-acts a ha)
-          (λ e. set-cases (λ z. T (fineAct K b z y)) (s .tasks) t x noTask (K .task b) (in-tasks t ht) (λ q. subst⁻¹ (λ v. T (fineAct K v x y)) e fy) (λ n. absurd (n (ap (K .task) e ∙ ta))))
+          (λ e. set-cases (λ z. T (fineAct K b z y)) (s .tasks) t x noTask (K .task b) (in-tasks t ht) (λ q. subst⁻¹ (λ v. T (fineAct K v x y)) e (of-act K a x y fy)) (λ n. absurd (n (ap (K .task) e ∙ ta))))
           (λ n. set-cases (λ z. T (fineAct K b z (actAt s b))) (s .tasks) t x noTask (K .task b) (in-tasks t ht)
-          (λ q. fine-same K b (taskAt s t) x (actAt s b) (hand .managing) (hand .others b n) (subst (λ u. T (fineAct K b (taskAt s u) (actAt s b))) q (S .acts b hb)))
+          (λ q. of-act K b x (actAt s b) (fine-same K b (taskAt s t) x (actAt s b) (hand .managing) (hand .others b n) (fine-in K s S t b hb q)))
           (λ m. S .acts b hb));
       pairs = λ m hm. not-T (executes K after (lo m) and executes K after (hi m)) (λ both.
           pair m hm (was new (lo m) (and-l (executes K after (lo m)) _ both)) (was new (hi m) (and-r (executes K after (lo m)) _ both)));
@@ -139,8 +136,8 @@ module _ (K : Table) (F : Formed K) (s : State) (S : Sound K s) where
     anew-acts b hb = anew-at f noAct (s .acts) (K .nacts) b hb (in-acts b hb)
 
     -- where none begins or ends to execute, the pairs stay apart
-    pub anew-pairs : ((b c : ℕ) (y : Act) → runs (f b y) c ≡ runs y c) → (date : ℕ) (l : List Task) (m : ℕ) → m < K .nmutex → T (apart K (record { date = date; tasks = l; acts = anew (K .nacts) f noAct (s .acts) }) m)
-    anew-pairs same date l m hm = subst₂ (λ u v. T (not (u and v))) (sym (at (K .mutex m .lo) (F .mutex m hm .0))) (sym (at (K .mutex m .hi) (F .mutex m hm .1))) (S .pairs m hm)
+    pub anew-pairs : ((b c : ℕ) (y : Act) → runs (f b y) c ≡ runs y c) → (z : State) (m : ℕ) → m < K .nmutex → T (apart K (withActs (anew (K .nacts) f noAct (s .acts)) z) m)
+    anew-pairs same z m hm = subst₂ (λ u v. T (not (u and v))) (sym (at (K .mutex m .lo) (F .mutex m hm .0))) (sym (at (K .mutex m .hi) (F .mutex m hm .1))) (S .pairs m hm)
       where
         at : (c : ℕ) → c < K .ncodels → runs (getD (anew (K .nacts) f noAct (s .acts)) (K .owner c) noAct) c ≡ executes K s c
         at c hc = ap (λ w. runs w c) (anew-acts (K .owner c) (F .owner c hc)) ∙ same (K .owner c) c (actAt s (K .owner c))

@@ -5,8 +5,8 @@ pub mod Formed
 pub mod Soundness
 pub mod Accepted
 pub mod Shapes
-pub mod Frames
 pub mod Sentences
+pub mod Frames
 pub mod StepsKeep
 pub mod Sums
 pub mod Falls

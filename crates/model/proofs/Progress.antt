@@ -9,7 +9,7 @@ use lib.Dec.{T, leb, ltb, le→leb, ltb→lt, eqb→eq}
 use Rattle.model.specs.Tests.{_implies_, each}
 use Rattle.model.specs.Limits.{ceiling}
 use Rattle.model.specs.Tables.{Table, isEther, isCodel, known, hasEdge}
-use Rattle.model.specs.States.{taskAt, actAt, holds, executes}
+use Rattle.model.specs.States.{taskAt, actAt, executes}
 use Rattle.model.specs.Rules.{eaAllowed, faAllowed, urgent, roomFor, refusal}
 use Rattle.model.specs.Sound.{atOwn}
 use Rattle.model.specs.declared.Act.{Act}
@@ -52,7 +52,7 @@ module _ (K : Table) (F : Formed K) (s : State) (S : Sound K s) where
       y : Act
       y = actAt s a
 
-      w : Executing K a (holds K s a) (y .halt) (y .place) (y .clock)
+      w : Executing K a (taskAt s (K .task a)) y
       w = executing-at K s S a ha e
 
       away : (p : Place) → T (known K p) → T (faAllowed K (Codel d) p) → Goes K s

@@ -1,7 +1,7 @@
 -- Laws of rows: what a list holds after one row was set, or each of the first rows was written anew.
-use mathlib.Core.Path.{_≡_, refl, subst⁻¹, _∙_}
+use mathlib.Core.Path.{_≡_, refl, ap, subst⁻¹, _∙_}
 use mathlib.Core.Logic.{⊎-elim}
-use mathlib.Core.List.{List}
+use mathlib.Core.List.{List, [], _∷_, map}
 use Prim.Native.Nat.{ℕ, zero, suc, _≤_, _<_}
 use native.Mathlib.Omega.{arith}
 use native.Mathlib.Decide.{ℕ-discrete}
@@ -17,6 +17,12 @@ set-cases Q l i v d j h at off = go (ℕ-discrete j i)
     go : Dec (j ≡ i) → Q (getD (set l i v) j d)
     go (yes e) = subst⁻¹ (λ k. Q (getD (set l i v) k d)) e (subst⁻¹ Q (getD-set-same l i v d h) (at e))
     go (no n) = subst⁻¹ Q (getD-set-other l i j v d n) (off n)
+
+-- a row set before or after the map
+pub map-set : {A B : Type 0} (f : A → B) (l : List A) (i : ℕ) (v : A) → map f (set l i v) ≡ set (map f l) i (f v)
+map-set f [] i v = refl
+map-set f (x ∷ l) zero v = refl
+map-set f (x ∷ l) (suc i) v = ap (f x ∷_) (map-set f l i v)
 
 -- rows written anew: as many as before, the first n by the function, the others as they were
 module _ {A : Type 0} (f : ℕ → A → A) (d : A) (l : List A) where

@@ -1,16 +1,19 @@
 -- The sentences of a task's or an activity's record after each change that a step makes, and where a step may lead.
-use mathlib.Core.Bool.{Bool, true, false, not}
-use mathlib.Core.Path.{_≡_, refl, subst}
+use mathlib.Core.Bool.{Bool, true, false, not, cond}
+use mathlib.Core.Path.{_≡_, refl, ap, subst}
 use mathlib.Core.Logic.{_⊎_, inl, inr, ⊎-elim}
 use Prim.Native.Nat.{ℕ, _+_, _≤_, _<_, zero-le}
 use native.Mathlib.Omega.{arith}
-use lib.Dec.{T, ltb, eqb, le→leb, lt→ltb, eqb→eq, T-not}
-use Rattle.model.specs.Tests.{_and_, _or_, _implies_, one}
+use native.Mathlib.Nat.{le-refl}
+use lib.Dec.{T, leb, ltb, eqb, le→leb, lt→ltb, eqb→eq, eqb-refl, T-not}
+use Rattle.text.specs.Set.{member}
+use Rattle.text.specs.declared.Set.{Set}
+use Rattle.model.specs.Tests.{_and_, _or_, one}
 use Rattle.model.specs.Limits.{mostTicks}
 use Rattle.model.specs.Tables.{Table, isEther, isCodel, hasEdge, safe}
 use Rattle.model.specs.States.{byManager, heldBy, stands, runs, clear, clearAt}
-use Rattle.model.specs.Rules.{held, oneMore, listed, again, eaAllowed, faAllowed, aged}
-use Rattle.model.specs.Sound.{atOwn, setsWhileManaging, mayRest, clockOk, fine, holderOk, fineTask}
+use Rattle.model.specs.Rules.{entered, rested, held, oneMore, signalled, managed, listed, again, eaAllowed, begun, faAllowed, closed, timed, clocked}
+use Rattle.model.specs.Sound.{atOwn, setsWhileManaging, mayRest, atSafe, clockOk, holderOk}
 use Rattle.model.specs.declared.Task.{Task}
 use Rattle.model.specs.declared.Act.{Act}
 use Rattle.model.specs.declared.State.{State}
@@ -18,58 +21,126 @@ use Rattle.model.specs.declared.Place.{Place}
 use Rattle.model.specs.declared.Place.the-variants.{Ether, Codel}
 use Rattle.model.specs.declared.Holder.{Holder}
 use Rattle.model.specs.declared.Holder.the-variants.{Manager, Activity}
-use Rattle.model.proofs.Tests.{and-i, and-l, and-r, or-cases, imp-i}
+use Rattle.model.proofs.Tests.{T-true, true-T, T-false, yes-or-no, and-i, and-l, and-r, or-cases, imp-i, imp-e}
 use Rattle.model.proofs.Formed.{Formed, pause-rests}
-use Rattle.model.proofs.Soundness.{Fine, of-fine, FineTask, of-task, executing}
+use Rattle.model.proofs.Soundness.{FineAct, FineTask, manager-is, executing}
+
+-- A task's record after each change.
+
+-- `st`: timer 0, one signal more
+pub signalled-fine : (K : Table) (date t : ℕ) (x : Task) → FineTask K date t x → x .timer ≡ K .period t → 1 ≤ K .period t → FineTask K date t (signalled x)
+signalled-fine K date t x f due p = record {
+  timer = zero-le;
+  holder = f .holder;
+  waits = imp-i (not (x .managing)) _ (λ n. rw (same (x .signal) (x .managing) n) (imp-e (not (x .managing)) _ (f .waits) n));
+  counts = counts (x .signal) (x .managing) (f .counts);
+  longest = f .longest;
+  opened = f .opened;
+}
+  where
+    same : (g m : Bool) → T (not m) → oneMore (g and m) (x .missed) ≡ x .missed
+    same g true n = absurd n
+    same true false n = refl
+    same false false n = refl
+
+    counts : (g m : Bool) → x .timer + (x .cycle + one g + x .missed) ≤ date → 0 + (x .cycle + one true + oneMore (g and m) (x .missed)) ≤ date
+    counts true true h = omega arith
+    counts true false h = omega arith
+    counts false m h = omega arith
+
+-- `sm`: one signal becomes one cycle
+pub managed-fine : (K : Table) (date t : ℕ) (x : Task) → FineTask K date t x → T (x .signal) → FineTask K date t (managed date x)
+managed-fine K date t x f g =
+    let s = T-true (x .signal) g in
+    record { timer = f .timer; holder = f .holder; waits = tt; counts = omega (arith, f .counts, ap one s); longest = f .longest; opened = le-refl _ }
 
 -- a managing task with another holder and a longest clock
-pub held-fine : (K : Table) (date t : ℕ) (x : Task) (h : Holder) (k : ℕ) → FineTask K date t x → T (x .managing) → T (holderOk K t h) → k ≤ mostTicks → T (fineTask K date t (held h k x))
+pub held-fine : (K : Table) (date t : ℕ) (x : Task) (h : Holder) (k : ℕ) → FineTask K date t x → T (x .managing) → T (holderOk K t h) → k ≤ mostTicks → FineTask K date t (held h k x)
 held-fine K date t x h k f m o b =
     let l = f .longest in
-    of-task K date t (held h k x) (record { timer = f .timer; holder = o; waits = imp-i (not (x .managing)) _ (λ n. absurd (T-not (x .managing) n m)); counts = f .counts; longest = omega arith; opened = f .opened })
+    record { timer = f .timer; holder = o; waits = imp-i (not (x .managing)) _ (λ n. absurd (T-not (x .managing) n m)); counts = f .counts; longest = omega arith; opened = f .opened }
 
--- an activity that holds has a managing task
-pub managing-of : (m : Bool) (h : Holder) (a : ℕ) (b : Bool) → T (not m implies (byManager h and b)) → T (heldBy h a) → T m
-managing-of true h a b w t = tt
-managing-of false Manager a b w t = absurd t
-managing-of false (Activity c) a b w t = absurd w
+-- `fm`: a waiting manager
+pub closed-fine : (K : Table) (date t : ℕ) (x : Task) → FineTask K date t x → T (byManager (x .holder)) → FineTask K date t (closed x)
+closed-fine K date t x f h = record { timer = f .timer; holder = f .holder; waits = and-i (byManager (x .holder)) _ h tt; counts = omega (arith, f .counts); longest = zero-le; opened = zero-le }
 
--- no clock of a sound state is above the largest limit
-pub clock-bound : (K : Table) → Formed K → (a : ℕ) (m h r l : Bool) (p : Place) (e : Bool) (k : ℕ) → Fine K a m h r l p e k → k ≤ mostTicks
-clock-bound K F a m h r l p false k f = omega (arith, eqb→eq k 0 (f .clock))
-clock-bound K F a m h r l p true k f = let w = executing K a m h r l p true k f tt in omega (arith, w .inTime, F .limitHigh (w .codel) (w .inK))
+-- `wait`: date and timer grow alike
+pub timed-fine : (K : Table) (date t d : ℕ) (x : Task) → FineTask K date t x → x .timer + d ≤ K .period t → FineTask K (date + d) t (timed d x)
+timed-fine K date t d x f r = record { timer = r; holder = f .holder; waits = f .waits; counts = omega (arith, f .counts); longest = f .longest; opened = omega (arith, f .opened) }
 
--- the sentences of an activity that holds and enters a codel of its own
-pub enter-fine : (K : Table) (a : ℕ) (m h r l before : Bool) (c : ℕ) → T h → T (not l) → T (atOwn K a (Codel c)) → T (setsWhileManaging m r before) → T (fine K a m h r l (Codel c) (safe K c) 0)
-enter-fine K a m false r l before c hh nl o w = absurd hh
-enter-fine K a m true r true before c hh nl o w = absurd nl
-enter-fine K a m true r false before c hh nl o w = of-fine K a m true r false (Codel c) (safe K c) 0 (record { own = o; sets = less r w; rests = tt; listed = tt; still = tt; runs = imp-i (safe K c) _ (λ t. t); clock = zero-clock (safe K c) })
-  where
-    less : (r : Bool) → T ((r or before) implies m) → T ((r or false) implies m)
-    less true w = w
-    less false w = tt
+-- a task that an activity holds is managing
+pub managing-of : (K : Table) (date t a : ℕ) (x : Task) → FineTask K date t x → T (heldBy (x .holder) a) → T (x .managing)
+managing-of K date t a x f h = ⊎-elim (λ m. m)
+    (λ n. absurd (subst (λ z. T (heldBy z a)) (manager-is (x .holder) (and-l (byManager (x .holder)) _ (imp-e (not (x .managing)) _ (f .waits) n))) h))
+    (yes-or-no (x .managing))
 
-    zero-clock : (b : Bool) → T (clockOk K (Codel c) b 0)
-    zero-clock true = le→leb 0 (K .limit c) zero-le
-    zero-clock false = tt
+-- An activity's record after each change, or its task's.
+module _ (K : Table) (a : ℕ) where
+  -- no clock of a sound state is above the largest limit
+  pub clock-bound : Formed K → (x : Task) (y : Act) → FineAct K a x y → y .clock ≤ mostTicks
+  clock-bound F x y f = ⊎-elim
+      (λ e. let w = executing K a x y f e in omega (arith, w .inTime, F .limitHigh (w .codel) (w .inK)))
+      (λ n. omega (arith, eqb→eq (y .clock) 0 (rw (T-false (y .executing) (T-not (y .executing) n)) at (f .clock))))
+      (yes-or-no (y .executing))
 
--- .. of one that the manager lets run
-pub lm-fine : (K : Table) (a : ℕ) (m r l : Bool) (p : Place) (e : Bool) (k : ℕ) → T (r or l) → Fine K a m false r l p e k
-    → let y : Act = again K l p (record { place = p; executing = e; clock = k; run = r; halt = l }) in T (fine K a m true (y .run) (y .halt) (y .place) (y .executing) (y .clock))
-lm-fine K a m r true p e k n f = of-fine K a m true r true p e k (record { own = f .own; sets = f .sets; rests = f .rests; listed = imp-i (isEther p) _ (λ t. n); still = f .still; runs = tt; clock = f .clock })
-lm-fine K a m r false Ether e k n f = of-fine K a m true r false Ether e k (record { own = f .own; sets = f .sets; rests = tt; listed = n; still = f .still; runs = tt; clock = f .clock })
-lm-fine K a m r false (Codel c) e k n f = enter-fine K a m true r false false c tt tt (f .own) (f .sets)
+  -- under another record of its task, with the same manager and the same holding
+  pub fine-same : (x z : Task) (y : Act) → x .managing ≡ z .managing → heldBy (x .holder) a ≡ heldBy (z .holder) a → FineAct K a x y → FineAct K a z y
+  fine-same x z y p q f = record { own = f .own; sets = rw (← p) (f .sets); rests = rw (← q) (f .rests); listed = rw (← q) (f .listed); still = f .still; runs = rw (← q) (f .runs); clock = f .clock }
 
--- .. of one that begins to execute where it stands
-pub cx-fine : (K : Table) (a : ℕ) (m h r l : Bool) (p : Place) (e : Bool) (k : ℕ) (y : Act) → T h → T (not l) → T (stands K y p) → Fine K a m h r l p e k → T (fine K a m h r l p true 0)
-cx-fine K a m false r l p e k y hh nl st f = absurd hh
-cx-fine K a m true r true p e k y hh nl st f = absurd nl
-cx-fine K a m true r false Ether e k y hh nl st f = absurd st
-cx-fine K a m true r false (Codel c) e k y hh nl st f = of-fine K a m true r false (Codel c) true 0 (record { own = f .own; sets = f .sets; rests = tt; listed = tt; still = tt; runs = imp-i (safe K c) true (λ t. tt); clock = le→leb 0 (K .limit c) zero-le })
+  -- under a manager that waits, in neither set
+  pub closed-act : (x : Task) (y : Act) → FineAct K a x y → (T ((y .run) or (y .halt)) → ⊥) → FineAct K a (closed x) y
+  closed-act x y f none = record { own = f .own; sets = imp-i ((y .run) or (y .halt)) false none; rests = f .rests; listed = f .listed; still = f .still; runs = f .runs; clock = f .clock }
 
--- .. of one that is given back at a place of its own where it may rest
-pub rested-fine : (K : Table) (a : ℕ) (m : Bool) (p : Place) → T (atOwn K a p) → T (mayRest K p) → T (fine K a m false false false p false 0)
-rested-fine K a m p o r = of-fine K a m false false false p false 0 (record { own = o; sets = tt; rests = and-i (mayRest K p) _ r tt; listed = tt; still = imp-i (isEther p) true (λ t. tt); runs = tt; clock = tt })
+  -- under a manager that begins to manage, in the sets as given
+  pub listed-fine : (date : ℕ) (x : Task) (n r : Set) (y : Act) → FineAct K a x y → heldBy (x .holder) a ≡ false → FineAct K a (managed date x) (listed true n r a y)
+  listed-fine date x n r y f e = record { own = f .own; sets = imp-i (member n a or member r a) true (λ u. tt); rests = rw e (rw e at (f .rests)); listed = rw e tt; still = f .still; runs = rw e tt; clock = f .clock }
+
+  -- it holds and enters a codel of its own
+  pub enter-fine : (x : Task) (y : Act) (c : ℕ) → T (heldBy (x .holder) a) → T (not (y .halt)) → T (atOwn K a (Codel c)) → T (setsWhileManaging x y) → FineAct K a x (entered K c y)
+  enter-fine x y c h n o w =
+      let hold = T-true (heldBy (x .holder) a) h in
+      let out = T-false (y .halt) (T-not (y .halt) n) in
+      record { own = o; sets = w; rests = rw (hold, out) tt; listed = rw hold tt; still = tt; runs = rw (hold, out) (imp-i (safe K c) _ (λ t. t)); clock = zero-clock (safe K c) }
+    where
+      zero-clock : (b : Bool) → T (cond b (leb 0 (K .limit c)) true)
+      zero-clock true = le→leb 0 (K .limit c) zero-le
+      zero-clock false = tt
+
+  -- the manager lets it run
+  pub lm-fine : (x : Task) (y : Act) → FineAct K a x y → heldBy (x .holder) a ≡ false → T ((y .run) or (y .halt)) → FineAct K a (held (Activity a) 0 x) (again K (y .halt) (y .place) y)
+  lm-fine x y f e n = go (y .halt) refl (y .place) refl
+    where
+      me : eqb a a ≡ true
+      me = T-true (eqb a a) (eqb-refl a)
+
+      go : (l : Bool) → y .halt ≡ l → (p : Place) → y .place ≡ p → FineAct K a (held (Activity a) 0 x) (again K l p y)
+      go true i p q = record { own = f .own; sets = f .sets; rests = rw (me, i) (rw e at (f .rests)); listed = imp-i (eqb a a and isEther (y .place)) _ (λ t. n); still = f .still; runs = rw (me, i) tt; clock = f .clock }
+      go false i Ether q = record { own = f .own; sets = f .sets; rests = rw (me, i) tt; listed = imp-i (eqb a a and isEther (y .place)) _ (λ t. n); still = f .still; runs = rw (me, i, q) tt; clock = f .clock }
+      go false i (Codel c) q = enter-fine (held (Activity a) 0 x) y c (eqb-refl a) (rw i tt) (subst (λ p. T (atOwn K a p)) q (f .own)) (f .sets)
+
+  -- it begins to execute where it stands
+  pub cx-fine : (x : Task) (y : Act) → FineAct K a x y → T (heldBy (x .holder) a) → T (not (y .halt)) → T (stands K y (y .place)) → FineAct K a x (begun y)
+  cx-fine x y f h n st = go (y .place) refl st
+    where
+      go : (p : Place) → y .place ≡ p → T (stands K y p) → FineAct K a x (begun y)
+      go Ether q st = absurd st
+      go (Codel c) q st =
+          let hold = T-true (heldBy (x .holder) a) h in
+          let out = T-false (y .halt) (T-not (y .halt) n) in
+          record { own = f .own; sets = f .sets; rests = rw (hold, out) tt; listed = rw (hold, q) tt; still = rw q tt; runs = imp-i (heldBy (x .holder) a and not (y .halt) and atSafe K (y .place)) true (λ t. tt); clock = rw q (le→leb 0 (K .limit c) zero-le) }
+
+  -- it is given back at a place of its own where it may rest
+  pub rested-fine : (k : ℕ) (x : Task) (p : Place) → T (atOwn K a p) → T (mayRest K p) → FineAct K a (held Manager k x) (rested p)
+  rested-fine k x p o r = record { own = o; sets = tt; rests = and-i (mayRest K p) _ r tt; listed = tt; still = imp-i (isEther p) true (λ t. tt); runs = tt; clock = tt }
+
+  -- `wait`: its clock may grow by d
+  pub clocked-fine : (d : ℕ) (x : Task) (y : Act) → FineAct K a x y → ((c : ℕ) → y .place ≡ Codel c → T (y .executing) → y .clock + d ≤ K .limit c) → FineAct K a (timed d x) (clocked d y)
+  clocked-fine d x y f g = record { own = f .own; sets = f .sets; rests = f .rests; listed = f .listed; still = f .still; runs = f .runs; clock = aged-ok (y .executing) refl (y .place) refl }
+    where
+      aged-ok : (e : Bool) → y .executing ≡ e → (p : Place) → y .place ≡ p → T (clockOk K (clocked d y))
+      aged-ok false i p q = rw i (rw i at (f .clock))
+      aged-ok true i Ether q = absurd (rw (i, q) at (f .clock))
+      aged-ok true i (Codel c) q = rw (i, q) (le→leb _ _ (g c q (true-T (y .executing) i)))
 
 -- what executes after entering a codel is thread safe
 pub enter-runs : (K : Table) (d c : ℕ) → T (safe K d and eqb d c) → T (safe K c)
@@ -96,30 +167,7 @@ pub fa-rests : (K : Table) (F : Formed K) (d : ℕ) (p : Place) → T (faAllowed
 fa-rests K F d Ether w = (tt, tt)
 fa-rests K F d (Codel c) w = ⊎-elim (λ e. (pause-rests K d (Codel c) e, F .stays d (Codel c) true e)) (λ e. absurd e) (or-cases (hasEdge K d (Codel c) true) false w)
 
--- `st`: the counts with one signal more, where the timer was due
-pub st-counts : (g m : Bool) (timer period cycle miss date : ℕ) → timer ≡ period → 1 ≤ period → timer + (cycle + one g + miss) ≤ date → 0 + (cycle + one true + oneMore (g and m) miss) ≤ date
-st-counts true true timer period cycle miss date e p h = omega arith
-st-counts true false timer period cycle miss date e p h = omega arith
-st-counts false m timer period cycle miss date e p h = omega arith
-
--- and a waiting manager still has missed none
-pub st-waits : (g m : Bool) (h : Holder) (opened miss longest : ℕ) → T (not m implies (byManager h and eqb opened 0 and eqb miss 0 and eqb longest 0)) → T (not m implies (byManager h and eqb opened 0 and eqb (oneMore (g and m) miss) 0 and eqb longest 0))
-st-waits g true h opened miss longest w = tt
-st-waits true false h opened miss longest w = w
-st-waits false false h opened miss longest w = w
-
--- `sm`: one signal becomes one cycle
-pub sm-counts : (g : Bool) (timer cycle miss date : ℕ) → T g → timer + (cycle + one g + miss) ≤ date → timer + (cycle + 1 + 0 + miss) ≤ date
-sm-counts true timer cycle miss date t h = omega arith
-sm-counts false timer cycle miss date t h = absurd t
-
--- and nothing begins or ends to execute
-pub listed-runs : (z : Bool) (n r a : ℕ) (y : Act) (c : ℕ) → runs (listed z n r a y) c ≡ runs y c
+-- `sm` lets nothing begin or end to execute
+pub listed-runs : (z : Bool) (n r : Set) (a : ℕ) (y : Act) (c : ℕ) → runs (listed z n r a y) c ≡ runs y c
 listed-runs true n r a y c = refl
 listed-runs false n r a y c = refl
-
--- `wait`: a clock that may grow by d is within its limit
-pub aged-fine : (K : Table) (p : Place) (e : Bool) (k d : ℕ) → T (clockOk K p e k) → ((c : ℕ) → p ≡ Codel c → T e → k + d ≤ K .limit c) → T (clockOk K p e (aged e d k))
-aged-fine K p false k d f g = f
-aged-fine K Ether true k d f g = absurd f
-aged-fine K (Codel c) true k d f g = le→leb _ _ (g c refl tt)

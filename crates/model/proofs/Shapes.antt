@@ -3,6 +3,7 @@ use mathlib.Core.Path.{_∙_}
 use Prim.Native.Nat.{ℕ}
 use lib.Dec.{eqb}
 use lib.ListN.{length-set}
+use Rattle.text.specs.declared.Set.{Set}
 use Rattle.model.specs.Tables.{Table}
 use Rattle.model.specs.States.{noTask, noAct, taskAt}
 use Rattle.model.specs.Rules.{putTask, putBoth, managed, listed, smNext, timed, clocked, waitNext}
@@ -20,7 +21,7 @@ pub both-shaped : (s : State) → Shaped s → (t : ℕ) (x : Task) (a : ℕ) (y
 both-shaped s h t x a y = record { tasks = length-set (s .tasks) t x ∙ h .tasks; acts = length-set (s .acts) a y ∙ h .acts }
 
 module _ (K : Table) (s : State) (h : Shaped s) where
-  pub sm-shaped : (t n r : ℕ) → Shaped (smNext K s t n r)
+  pub sm-shaped : (t : ℕ) (n r : Set) → Shaped (smNext K s t n r)
   sm-shaped t n r = record { tasks = length-set (s .tasks) t (managed (s .date) (taskAt s t)) ∙ h .tasks; acts = anew-length (λ a. listed (eqb (K .task a) t) n r a) noAct (s .acts) (K .nacts) ∙ h .acts }
 
   pub wait-shaped : (d : ℕ) → Shaped (waitNext K s d)

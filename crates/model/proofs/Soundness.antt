@@ -1,14 +1,15 @@
 -- The sound state, sentence by sentence: the test and the record agree, the fresh state is sound, and what executes in a sound state.
-use mathlib.Core.Bool.{Bool, true, false, not}
+use mathlib.Core.Bool.{Bool, not}
 use mathlib.Core.Path.{_≡_, refl, ap, subst, subst⁻¹}
+use mathlib.Core.Logic.{⊎-elim}
 use Prim.Native.Nat.{ℕ, zero, suc, _+_, _≤_, _<_, zero-le}
-use lib.Dec.{T, leb, ltb, leb→le, le→leb, ltb→lt, eqb→eq, lit≤}
+use lib.Dec.{T, leb, ltb, leb→le, le→leb, ltb→lt, eqb→eq, lit≤, T-not}
 use lib.ListN.{length, getD, replicate}
-use Rattle.model.specs.Tests.{_implies_, one, each}
+use Rattle.model.specs.Tests.{_and_, _implies_, one, each}
 use Rattle.model.specs.Limits.{mostTasks, mostActs, mostTicks, ceiling}
-use Rattle.model.specs.Tables.{Table}
-use Rattle.model.specs.States.{noTask, noAct, fresh, taskAt, actAt, byManager, heldBy, holds}
-use Rattle.model.specs.Sound.{atOwn, setsWhileManaging, mayRest, restsUnlessRunning, listedAtEther, stillAtEther, executesWhenSafe, clockOk, fine, fineAct, timerOk, holderOk, waitingOk, countsOk, longestOk, fineTask, apart, isFreshTask, isFreshAct, sound}
+use Rattle.model.specs.Tables.{Table, isEther}
+use Rattle.model.specs.States.{noTask, noAct, fresh, taskAt, actAt, byManager, heldBy}
+use Rattle.model.specs.Sound.{atOwn, setsWhileManaging, mayRest, restsUnlessRunning, listedAtEther, stillAtEther, executesWhenSafe, clockOk, fineAct, timerOk, holderOk, waitingOk, countsOk, longestOk, fineTask, apart, isFreshTask, isFreshAct, sound}
 use Rattle.model.specs.declared.Task.{Task}
 use Rattle.model.specs.declared.Act.{Act}
 use Rattle.model.specs.declared.State.{State}
@@ -16,7 +17,7 @@ use Rattle.model.specs.declared.Place.{Place}
 use Rattle.model.specs.declared.Place.the-variants.{Ether, Codel}
 use Rattle.model.specs.declared.Holder.{Holder}
 use Rattle.model.specs.declared.Holder.the-variants.{Manager, Activity}
-use Rattle.model.proofs.Tests.{and-i, and-l, and-r, and-both, imp-i, imp-e, each-at, each-mk}
+use Rattle.model.proofs.Tests.{T-true, yes-or-no, and-i, and-r, and-both, imp-i, imp-e, each-at, each-mk}
 
 -- a state has as many rows as the code's arrays
 pub record Shaped (s : State) : Type 0 where
@@ -95,39 +96,35 @@ fresh-sound K = of-sound K fresh (record {
   restA = λ a l h. rw (fresh-act a) tt;
 })
 
--- an activity's sentences, by name
-pub record Fine (K : Table) (a : ℕ) (m h r l : Bool) (p : Place) (e : Bool) (k : ℕ) : Type 0 where
-  pub own : T (atOwn K a p)
-  pub sets : T (setsWhileManaging m r l)
-  pub rests : T (restsUnlessRunning K h l p e)
-  pub listed : T (listedAtEther h r l p)
-  pub still : T (stillAtEther p e)
-  pub runs : T (executesWhenSafe K h l p e)
-  pub clock : T (clockOk K p e k)
+-- the sentences of an activity a, whose record is y and whose task's record is x, by name
+pub record FineAct (K : Table) (a : ℕ) (x : Task) (y : Act) : Type 0 where
+  pub own : T (atOwn K a (y .place))
+  pub sets : T (setsWhileManaging x y)
+  pub rests : T (restsUnlessRunning K a x y)
+  pub listed : T (listedAtEther a x y)
+  pub still : T (stillAtEther y)
+  pub runs : T (executesWhenSafe K a x y)
+  pub clock : T (clockOk K y)
 
--- an activity's record y under its task's record x
-abbrev pub FineAct : Table → ℕ → Task → Act → Type 0
-FineAct K a x y = Fine K a (x .managing) (heldBy (x .holder) a) (y .run) (y .halt) (y .place) (y .executing) (y .clock)
-
-module _ (K : Table) (a : ℕ) (m h r l : Bool) (p : Place) (e : Bool) (k : ℕ) where
-  pub fine-of : T (fine K a m h r l p e k) → Fine K a m h r l p e k
-  fine-of t =
-      let own = and-both (atOwn K a p) _ t in
-      let sets = and-both (setsWhileManaging m r l) _ (own .1) in
-      let rests = and-both (restsUnlessRunning K h l p e) _ (sets .1) in
-      let listed = and-both (listedAtEther h r l p) _ (rests .1) in
-      let still = and-both (stillAtEther p e) _ (listed .1) in
-      let runs = and-both (executesWhenSafe K h l p e) _ (still .1) in
+module _ (K : Table) (a : ℕ) (x : Task) (y : Act) where
+  pub act-of : T (fineAct K a x y) → FineAct K a x y
+  act-of t =
+      let own = and-both (atOwn K a (y .place)) _ t in
+      let sets = and-both (setsWhileManaging x y) _ (own .1) in
+      let rests = and-both (restsUnlessRunning K a x y) _ (sets .1) in
+      let listed = and-both (listedAtEther a x y) _ (rests .1) in
+      let still = and-both (stillAtEther y) _ (listed .1) in
+      let runs = and-both (executesWhenSafe K a x y) _ (still .1) in
       record { own = own .0; sets = sets .0; rests = rests .0; listed = listed .0; still = still .0; runs = runs .0; clock = runs .1 }
 
-  pub of-fine : Fine K a m h r l p e k → T (fine K a m h r l p e k)
-  of-fine f =
-      and-i (atOwn K a p) _ (f .own)
-      (and-i (setsWhileManaging m r l) _ (f .sets)
-      (and-i (restsUnlessRunning K h l p e) _ (f .rests)
-      (and-i (listedAtEther h r l p) _ (f .listed)
-      (and-i (stillAtEther p e) _ (f .still)
-      (and-i (executesWhenSafe K h l p e) _ (f .runs)
+  pub of-act : FineAct K a x y → T (fineAct K a x y)
+  of-act f =
+      and-i (atOwn K a (y .place)) _ (f .own)
+      (and-i (setsWhileManaging x y) _ (f .sets)
+      (and-i (restsUnlessRunning K a x y) _ (f .rests)
+      (and-i (listedAtEther a x y) _ (f .listed)
+      (and-i (stillAtEther y) _ (f .still)
+      (and-i (executesWhenSafe K a x y) _ (f .runs)
       (f .clock))))))
 
 -- a task's sentences, by name
@@ -168,39 +165,41 @@ manager-is Manager t = refl
 manager-is (Activity b) t = absurd t
 
 -- where an activity executes: at a codel of its own, within its limit; it holds, and is not in R
-pub record Executing (K : Table) (a : ℕ) (h l : Bool) (p : Place) (k : ℕ) : Type 0 where
+pub record Executing (K : Table) (a : ℕ) (x : Task) (y : Act) : Type 0 where
   pub codel : ℕ
-  pub place : p ≡ Codel codel
+  pub place : y .place ≡ Codel codel
   pub inK : codel < K .ncodels
   pub owner : K .owner codel ≡ a
-  pub inTime : k ≤ K .limit codel
-  pub holds : T h
-  pub notR : T (not l)
+  pub inTime : y .clock ≤ K .limit codel
+  pub holds : T (heldBy (x .holder) a)
+  pub notR : T (not (y .halt))
 
-pub executing : (K : Table) (a : ℕ) (m h r l : Bool) (p : Place) (e : Bool) (k : ℕ) → Fine K a m h r l p e k → T e → Executing K a h l p k
-executing K a m h r l p false k f t = absurd t
-executing K a m h r l Ether true k f t = absurd (f .still)
-executing K a m h r l (Codel d) true k f t =
-    let w = running h l (f .rests) in
-    record {
-      codel = d;
-      place = refl;
-      inK = ltb→lt _ _ (and-l (ltb d (K .ncodels)) _ (f .own));
-      owner = eqb→eq _ _ (and-r (ltb d (K .ncodels)) _ (f .own));
-      inTime = leb→le _ _ (f .clock);
-      holds = w .0;
-      notR = w .1;
-    }
+pub executing : (K : Table) (a : ℕ) (x : Task) (y : Act) → FineAct K a x y → T (y .executing) → Executing K a x y
+executing K a x y f e = at (y .place) refl
   where
-    running : (h l : Bool) → T (restsUnlessRunning K h l (Codel d) true) → T h × T (not l)
-    running true false w = (tt, tt)
-    running true true w = absurd (and-r (mayRest K (Codel d)) _ w)
-    running false l w = absurd (and-r (mayRest K (Codel d)) _ w)
+    running : T (heldBy (x .holder) a and not (y .halt))
+    running = ⊎-elim (λ t. t) (λ n. absurd (T-not (y .executing) (and-r (mayRest K (y .place)) _ (imp-e (not (heldBy (x .holder) a and not (y .halt))) _ (f .rests) n)) e))
+        (yes-or-no (heldBy (x .holder) a and not (y .halt)))
+
+    at : (p : Place) → y .place ≡ p → Executing K a x y
+    at Ether q = absurd (T-not (y .executing) (imp-e (isEther (y .place)) _ (f .still) (subst⁻¹ (λ p. T (isEther p)) q tt)) e)
+    at (Codel d) q =
+        let own = and-both (ltb d (K .ncodels)) _ (subst (λ p. T (atOwn K a p)) q (f .own)) in
+        let hold = and-both (heldBy (x .holder) a) _ running in
+        record {
+          codel = d;
+          place = q;
+          inK = ltb→lt _ _ (own .0);
+          owner = eqb→eq _ _ (own .1);
+          inTime = leb→le _ _ (rw (T-true (y .executing) e, q) at (f .clock));
+          holds = hold .0;
+          notR = hold .1;
+        }
 
 -- the rows of a sound state, and what executes in it
 module _ (K : Table) (s : State) (S : Sound K s) where
   pub fine-at : (a : ℕ) → a < K .nacts → FineAct K a (taskAt s (K .task a)) (actAt s a)
-  fine-at a h = fine-of K a _ _ _ _ _ _ _ (S .acts a h)
+  fine-at a h = act-of K a _ _ (S .acts a h)
 
   pub task-at : (t : ℕ) → t < K .ntasks → FineTask K (s .date) t (taskAt s t)
   task-at t h = task-of K (s .date) t (taskAt s t) (S .tasks t h)
@@ -216,5 +215,5 @@ module _ (K : Table) (s : State) (S : Sound K s) where
       (ltb→lt _ _ (w .0), eqb→eq _ _ (w .1))
 
   -- an activity that executes
-  pub executing-at : (a : ℕ) → a < K .nacts → T (actAt s a .executing) → Executing K a (holds K s a) (actAt s a .halt) (actAt s a .place) (actAt s a .clock)
-  executing-at a h t = executing K a _ _ _ _ _ _ _ (fine-at a h) t
+  pub executing-at : (a : ℕ) → a < K .nacts → T (actAt s a .executing) → Executing K a (taskAt s (K .task a)) (actAt s a)
+  executing-at a h t = executing K a _ _ (fine-at a h) t

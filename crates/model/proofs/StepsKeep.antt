@@ -5,16 +5,16 @@ use mathlib.Core.Logic.{inl, inr, ⊎-elim}
 use mathlib.Core.List.{List, [], _∷_}
 use Prim.Native.Nat.{ℕ, zero, suc, _+_, _≤_, _<_, zero-le}
 use native.Mathlib.Omega.{arith}
-use native.Mathlib.Nat.{le-refl}
 use borrow.Author.Tests.{eq-eqb, ne-eqb}
 use lib.Dec.{T, leb, ltb, eqb, leb→le, lt→ltb, eqb→eq, eqb-refl, T-not}
 use lib.ListN.{getD, set}
-use Rattle.text.specs.Set.{bit}
+use Rattle.text.specs.declared.Set.{Set}
 use Rattle.model.specs.Tests.{_or_, _implies_, each, accepted}
 use Rattle.model.specs.Limits.{mostTicks}
 use Rattle.model.specs.Tables.{Table, isCodel, isStop}
 use Rattle.model.specs.States.{noTask, taskAt, actAt, byManager, heldBy, holds, inSets, runs, executes}
-use Rattle.model.specs.Rules.{entered, rested, held, putBoth, anew, stRefusal, signalled, stNext, smRefusal, managed, listed, smNext, lmRefusal, again, lmNext, iaRefusal, orAt, first, stopOf, outOfR, iaTo, iaNext, eaRefusal, eaNext, cxRefusal, begun, cxNext, faAllowed, faRefusal, faNext, noneIn, fmRefusal, closed, fmNext, roomFor, waitRefusal, timed, aged, clocked, waitNext, refusal, next}
+use Rattle.model.specs.Records.{withDate, withTasks}
+use Rattle.model.specs.Rules.{entered, rested, held, putTask, putBoth, anew, stRefusal, signalled, stNext, smRefusal, managed, listed, smNext, lmRefusal, again, lmNext, iaRefusal, orAt, first, stopOf, outOfR, iaTo, iaNext, eaRefusal, eaNext, cxRefusal, begun, cxNext, faAllowed, faRefusal, faNext, noneIn, fmRefusal, closed, fmNext, roomFor, waitRefusal, timed, clocked, waitNext, refusal, next}
 use Rattle.model.specs.Sound.{atOwn, setsWhileManaging, mayRest, fineAct, fineTask, isFreshTask}
 use Rattle.model.specs.Logs.{allAccepted, reached}
 use Rattle.model.specs.declared.Task.{Task}
@@ -27,14 +27,14 @@ use Rattle.model.specs.declared.TaskStep.the-variants.{St, Fm}
 use Rattle.model.specs.declared.ActStep.the-variants.{Lm, Ia, Ea, Cx, Fa}
 use Rattle.model.specs.declared.Step.{Step}
 use Rattle.model.specs.declared.Step.the-variants.{Wait, Sm, OfTask, OfAct}
-use Rattle.model.proofs.Tests.{T-true, true-T, and-i, and-l, and-r, and-both, imp-i, imp-e, each-at}
+use Rattle.model.proofs.Tests.{true-T, and-i, and-l, and-r, and-both, imp-i, imp-e, each-at}
 use Rattle.model.proofs.Rows.{set-cases, anew-past, anew-at}
 use Rattle.model.proofs.Formed.{Formed}
-use Rattle.model.proofs.Soundness.{Sound, Fine, FineAct, of-fine, FineTask, of-task, held-is, manager-is, fine-at, task-at, fine-in, executing-at}
+use Rattle.model.proofs.Soundness.{Sound, FineAct, of-act, FineTask, of-task, held-is, manager-is, fine-at, task-at, fine-in, executing-at}
 use Rattle.model.proofs.Accepted.{WaitGoes, SmGoes, wait-goes, st-goes, sm-goes, lm-goes, ia-goes, ea-goes, cx-goes, fa-goes, fm-goes}
 use Rattle.model.proofs.Shapes.{sm-shaped, wait-shaped}
 use Rattle.model.proofs.Frames.{Handed, handed-to, given-back, held-on, held-longer, safe-clear, in-tasks, set-tasks, set-past, keep-task, keep-both, anew-acts, anew-pairs, anew-rest}
-use Rattle.model.proofs.Sentences.{held-fine, managing-of, clock-bound, enter-fine, lm-fine, cx-fine, rested-fine, enter-runs, again-runs, cx-clear, ea-own, fa-rests, st-counts, st-waits, sm-counts, listed-runs, aged-fine}
+use Rattle.model.proofs.Sentences.{signalled-fine, managed-fine, held-fine, closed-fine, timed-fine, managing-of, clock-bound, fine-same, closed-act, listed-fine, enter-fine, lm-fine, cx-fine, rested-fine, clocked-fine, enter-runs, again-runs, cx-clear, ea-own, fa-rests, listed-runs}
 
 -- the first number that passes is below the bound and passes
 pub first-at : (n : ℕ) (p : ℕ → Bool) (c : ℕ) → first n p ≡ Codel c → (c < n) × T (p c)
@@ -52,21 +52,8 @@ module _ (K : Table) (F : Formed K) (s : State) (S : Sound K s) where
   st-keeps t ok =
       let g = st-goes K s t ok in
       let x = taskAt s t in
-      let f = task-at K s S t (g .inT) in
-      keep-task K F s S t (g .inT) (signalled x)
-      (of-task K (s .date) t (signalled x) (record {
-        timer = zero-le;
-        holder = f .holder;
-        waits = st-waits (x .signal) (x .managing) (x .holder) (x .opened) (x .missed) (x .longest) (f .waits);
-        counts = st-counts (x .signal) (x .managing) (x .timer) (K .period t) (x .cycle) (x .missed) (s .date) (g .due) (F .period t (g .inT)) (f .counts);
-        longest = f .longest;
-        opened = f .opened;
-      }))
-      (λ b hb q. subst (λ u. T (fineAct K b (signalled (taskAt s u)) (actAt s b))) q (S .acts b hb))
-
-  -- an activity of a task that the manager holds
-  free-fine : (t b : ℕ) → b < K .nacts → K .task b ≡ t → taskAt s t .holder ≡ Manager → Fine K b (taskAt s t .managing) false (actAt s b .run) (actAt s b .halt) (actAt s b .place) (actAt s b .executing) (actAt s b .clock)
-  free-fine t b hb e free = let y = actAt s b in subst (λ h. Fine K b (taskAt s t .managing) (heldBy h b) (y .run) (y .halt) (y .place) (y .executing) (y .clock)) free (fine-in K s S t b hb e)
+      keep-task K F s S t (g .inT) (signalled x) (signalled-fine K (s .date) t x (task-at K s S t (g .inT)) (g .due) (F .period t (g .inT)))
+      (λ b hb q. fine-same K b x (signalled x) (actAt s b) refl refl (fine-in K s S t b hb q))
 
   lm-keeps : (t a : ℕ) → lmRefusal K s t a ≡ 0 → Sound K (lmNext K s t a)
   lm-keeps t a ok =
@@ -77,7 +64,7 @@ module _ (K : Table) (F : Formed K) (s : State) (S : Sound K s) where
       keep-both K F s S t a (g .inT) (g .inA) (g .task) (held (Activity a) 0 x) (again K (y .halt) (y .place) y)
       (handed-to a 0 x free)
       (held-fine K (s .date) t x (Activity a) 0 (task-at K s S t (g .inT)) (g .managing) (and-i (ltb a (K .nacts)) _ (lt→ltb _ _ (g .inA)) (true-T _ (eq-eqb _ _ (g .task)))) zero-le)
-      (rw (T-true (eqb a a) (eqb-refl a)) (lm-fine K a (x .managing) (y .run) (y .halt) (y .place) (y .executing) (y .clock) (g .listed) (free-fine t a (g .inA) (g .task) free)))
+      (lm-fine K a x y (fine-in K s S t a (g .inA) (g .task)) (ap (λ h. heldBy h a) free) (g .listed))
       (λ c u. ⊎-elim inl (λ v. inr (safe-clear K s c v)) (again-runs K (y .halt) (y .place) y c u))
 
   -- an activity and its task
@@ -98,27 +85,26 @@ module _ (K : Table) (F : Formed K) (s : State) (S : Sound K s) where
     fx = task-at K s S (K .task a) ht
 
     managing : T (x .managing)
-    managing = managing-of (x .managing) (x .holder) a _ (fx .waits) hh
+    managing = managing-of K (s .date) (K .task a) a x fx hh
 
     -- a gives the task back at p
     give-keeps : (k : ℕ) (p : Place) → k ≤ mostTicks → T (atOwn K a p) → T (mayRest K p) → Sound K (putBoth s (K .task a) (held Manager k x) a (rested p))
     give-keeps k p hk o r = keep-both K F s S (K .task a) a ht ha refl (held Manager k x) (rested p)
         (given-back a k x (held-is (x .holder) a hh))
         (held-fine K (s .date) (K .task a) x Manager k fx managing tt hk)
-        (rested-fine K a (x .managing) p o r)
+        (rested-fine K a k x p o r)
         (λ c u. absurd u)
 
     -- a goes on holding and enters a codel of its own
-    enter-keeps : (z : Task) (w : Act) (c : ℕ) → Handed a x z → T (heldBy (z .holder) a) → T (fineTask K (s .date) (K .task a) z) → w .run ≡ y .run → T (not (w .halt)) → T (atOwn K a (Codel c)) → Sound K (putBoth s (K .task a) z a (entered K c w))
-    enter-keeps z w c hand hz fz e nl o = keep-both K F s S (K .task a) a ht ha refl z (entered K c w) hand fz
-        (enter-fine K a (z .managing) (heldBy (z .holder) a) (w .run) (w .halt) (y .halt) c hz nl o (subst₂ (λ m r. T (setsWhileManaging m r (y .halt))) (hand .managing) (sym e) (f .sets)))
+    enter-keeps : (z : Task) (w : Act) (c : ℕ) → Handed a x z → T (heldBy (z .holder) a) → FineTask K (s .date) (K .task a) z → T (setsWhileManaging z w) → T (not (w .halt)) → T (atOwn K a (Codel c)) → Sound K (putBoth s (K .task a) z a (entered K c w))
+    enter-keeps z w c hand hz fz ws nl o = keep-both K F s S (K .task a) a ht ha refl z (entered K c w) hand fz (enter-fine K a z w c hz nl o ws)
         (λ d u. inr (safe-clear K s d (enter-runs K c d u)))
 
     ia-to : (q : Place) → stopOf K a ≡ q → Sound K (iaTo K s a q)
     ia-to Ether e = give-keeps 0 Ether zero-le tt tt
     ia-to (Codel c) e =
         let g = first-at (K .ncodels) (isStop K a) c e in
-        enter-keeps x (outOfR y) c (held-on a x) hh (S .tasks (K .task a) ht) refl tt (and-i (ltb c (K .ncodels)) _ (lt→ltb _ _ (g .0)) (and-l (eqb (K .owner c) a) _ (g .1)))
+        enter-keeps x (outOfR y) c (held-on a x) hh fx (imp-i ((y .run) or false) _ (λ u. managing)) tt (and-i (ltb c (K .ncodels)) _ (lt→ltb _ _ (g .0)) (and-l (eqb (K .owner c) a) _ (g .1)))
 
   ia-keeps : (a : ℕ) → iaRefusal K s a ≡ 0 → Sound K (iaNext K s a)
   ia-keeps a ok = let g = ia-goes K s a ok in ia-to a (g .inA) (g .holds) (stopOf K a) refl
@@ -134,8 +120,8 @@ module _ (K : Table) (F : Formed K) (s : State) (S : Sound K s) where
       enter-keeps a (g .inA) (g .holds) (held h k (taskAt s t)) (actAt s a) c
       (held-longer a k (taskAt s t))
       (g .holds)
-      (held-fine K (s .date) t (taskAt s t) h k fx (managing a (g .inA) (g .holds)) (fx .holder) (clock-bound K F a _ _ _ _ _ _ _ f))
-      refl (g .notR) (ea-own K F a c (actAt s a) (actAt s a .place) (g .inC) (f .own) (g .allowed))
+      (held-fine K (s .date) t (taskAt s t) h k fx (managing a (g .inA) (g .holds)) (fx .holder) (clock-bound K a F _ _ f))
+      (f .sets) (g .notR) (ea-own K F a c (actAt s a) (actAt s a .place) (g .inC) (f .own) (g .allowed))
 
   cx-keeps : (a : ℕ) → cxRefusal K s a ≡ 0 → Sound K (cxNext K s a)
   cx-keeps a ok =
@@ -144,8 +130,8 @@ module _ (K : Table) (F : Formed K) (s : State) (S : Sound K s) where
       let x = taskAt s t in
       let y = actAt s a in
       let ht : t < K .ntasks = F .task a (g .inA) in
-      keep-both K F s S t a ht (g .inA) refl x (begun y) (held-on a x) (S .tasks t ht)
-      (cx-fine K a (x .managing) (heldBy (x .holder) a) (y .run) (y .halt) (y .place) (y .executing) (y .clock) y (g .holds) (g .notR) (g .stands) (fine-at K s S a (g .inA)))
+      keep-both K F s S t a ht (g .inA) refl x (begun y) (held-on a x) (task-at K s S t ht)
+      (cx-fine K a x y (fine-at K s S a (g .inA)) (g .holds) (g .notR) (g .stands))
       (λ c u. inr (cx-clear K s (y .place) c (g .clear) u))
 
   fa-keeps : (a : ℕ) (p : Place) → faRefusal K s a p ≡ 0 → Sound K (faNext K s a p)
@@ -160,24 +146,18 @@ module _ (K : Table) (F : Formed K) (s : State) (S : Sound K s) where
   fm-keeps t ok =
       let g = fm-goes K s t ok in
       let x = taskAt s t in
-      let f = task-at K s S t (g .inT) in
-      keep-task K F s S t (g .inT) (closed x)
-      (of-task K (s .date) t (closed x) (record { timer = f .timer; holder = f .holder; waits = and-i (byManager (x .holder)) _ (g .holds) tt; counts = omega (arith, f .counts); longest = zero-le; opened = zero-le }))
-      (λ b hb q.
-      let y = actAt s b in
-      let fb = fine-in K s S t b hb q in
-      let out : T (not (inSets K s t b)) = each-at _ (K .nacts) (g .none) b hb in
-      of-fine K b false (heldBy (x .holder) b) (y .run) (y .halt) (y .place) (y .executing) (y .clock)
-      (record { own = fb .own; sets = imp-i ((y .run) or (y .halt)) false (λ u. T-not (inSets K s t b) out (and-i (eqb (K .task b) t) _ (true-T _ (eq-eqb _ _ q)) u)); rests = fb .rests; listed = fb .listed; still = fb .still; runs = fb .runs; clock = fb .clock }))
+      keep-task K F s S t (g .inT) (closed x) (closed-fine K (s .date) t x (task-at K s S t (g .inT)) (g .holds))
+      (λ b hb q. closed-act K b x (actAt s b) (fine-in K s S t b hb q)
+      (λ u. T-not (inSets K s t b) (each-at _ (K .nacts) (g .none) b hb) (and-i (eqb (K .task b) t) _ (true-T _ (eq-eqb _ _ q)) u)))
 
-  sm-keeps : (t n r : ℕ) → smRefusal K s t n r ≡ 0 → Sound K (smNext K s t n r)
+  sm-keeps : (t : ℕ) (n r : Set) → smRefusal K s t n r ≡ 0 → Sound K (smNext K s t n r)
   sm-keeps t n r ok = record {
     shape = sm-shaped K s (S .shape) t n r;
     date = S .date;
-    tasks = set-tasks K F s S t (g .inT) z (of-task K (s .date) t z (record { timer = fx .timer; holder = fx .holder; waits = tt; counts = sm-counts (x .signal) (x .timer) (x .cycle) (x .missed) (s .date) (g .signal) (fx .counts); longest = fx .longest; opened = le-refl _ }));
+    tasks = set-tasks K F s S t (g .inT) z (managed-fine K (s .date) t x fx (g .signal));
     acts = λ b hb. subst⁻¹ (λ w. T (fineAct K b (getD (set (s .tasks) t z) (K .task b) noTask) w)) (anew-acts K F s S put b hb)
         (set-cases (λ v. T (fineAct K b v (put b (actAt s b)))) (s .tasks) t z noTask (K .task b) (in-tasks K F s S t (g .inT)) (ours b hb) (theirs b hb));
-    pairs = anew-pairs K F s S put (λ b c y. listed-runs (eqb (K .task b) t) n r b y c) (s .date) (set (s .tasks) t z);
+    pairs = anew-pairs K F s S put (λ b c y. listed-runs (eqb (K .task b) t) n r b y c) (putTask s t z);
     restT = set-past K F s S t (g .inT) z;
     restA = anew-rest K F s S put;
   }
@@ -204,11 +184,7 @@ module _ (K : Table) (F : Formed K) (s : State) (S : Sound K s) where
       theirs b hb e = rw (ne-eqb (K .task b) t e) (S .acts b hb)
 
       ours : (b : ℕ) → b < K .nacts → K .task b ≡ t → T (fineAct K b z (put b (actAt s b)))
-      ours b hb e =
-          let y = actAt s b in
-          let f = free-fine t b hb e free in
-          rw (eq-eqb (K .task b) t e, free) (of-fine K b true false (bit n b) (bit r b) (y .place) (y .executing) (y .clock)
-          (record { own = f .own; sets = imp-i (bit n b or bit r b) true (λ u. tt); rests = f .rests; listed = tt; still = f .still; runs = tt; clock = f .clock }))
+      ours b hb e = rw (eq-eqb (K .task b) t e) (of-act K b _ _ (listed-fine K b (s .date) x n r (actAt s b) (fine-in K s S t b hb e) (ap (λ h. heldBy h b) free)))
 
   wait-keeps : (d : ℕ) → waitRefusal K s d ≡ 0 → Sound K (waitNext K s d)
   unfolding roomFor
@@ -216,18 +192,12 @@ module _ (K : Table) (F : Formed K) (s : State) (S : Sound K s) where
     shape = wait-shaped K s (S .shape) d;
     date = g .below;
     tasks = λ t ht.
-        let x = taskAt s t in
-        let f = task-at K s S t ht in
         subst⁻¹ (λ w. T (fineTask K (s .date + d) t w)) (tasks t ht)
-        (of-task K (s .date + d) t (timed d x) (record { timer = leb→le _ _ (each-at timers (K .ntasks) (and-l (each (K .ntasks) timers) _ (g .room)) t ht); holder = f .holder; waits = f .waits; counts = omega (arith, f .counts); longest = f .longest; opened = omega (arith, f .opened) }));
+        (of-task K (s .date + d) t _ (timed-fine K (s .date) t d (taskAt s t) (task-at K s S t ht) (leb→le _ _ (each-at timers (K .ntasks) (and-l (each (K .ntasks) timers) _ (g .room)) t ht))));
     acts = λ b hb.
-        let y = actAt s b in
-        let x = taskAt s (K .task b) in
-        let f = fine-at K s S b hb in
         subst₂ (λ v w. T (fineAct K b v w)) (sym (tasks (K .task b) (F .task b hb))) (sym (anew-acts K F s S older b hb))
-        (of-fine K b (x .managing) (heldBy (x .holder) b) (y .run) (y .halt) (y .place) (y .executing) (aged (y .executing) d (y .clock))
-        (record { own = f .own; sets = f .sets; rests = f .rests; listed = f .listed; still = f .still; runs = f .runs; clock = aged-fine K (y .place) (y .executing) (y .clock) d (f .clock) (inTime b hb) }));
-    pairs = anew-pairs K F s S older (λ b c y. refl) (s .date + d) (anew (K .ntasks) late noTask (s .tasks));
+        (of-act K b _ _ (clocked-fine K b d (taskAt s (K .task b)) (actAt s b) (fine-at K s S b hb) (inTime b hb)));
+    pairs = anew-pairs K F s S older (λ b c y. refl) (withDate (s .date + d) (withTasks (anew (K .ntasks) late noTask (s .tasks)) s));
     restT = λ t l h. subst⁻¹ (λ w. T (isFreshTask w)) (anew-past late noTask (s .tasks) (K .ntasks) t l) (S .restT t l h);
     restA = anew-rest K F s S older;
   }

@@ -2,14 +2,13 @@
 use mathlib.Core.Bool.{Bool, not}
 use mathlib.Core.Path.{_≡_, refl, subst⁻¹}
 use mathlib.Core.Logic.{⊎-elim, _↔_}
-use Prim.Native.Nat.{ℕ, _<_, _%_, _^_}
+use Prim.Native.Nat.{ℕ, _<_}
 use native.Mathlib.Omega.{arith}
-use native.Mathlib.Nat.{zero-div}
 use borrow.Author.Tests.{eq-eqb, not-false}
-use lib.Dec.{T, ltb, eqb, eqb→eq, eqb-refl, T-not}
-use Rattle.text.specs.Set.{bit}
-use Rattle.model.specs.Tests.{_and_, _implies_, some, accepted}
-use Rattle.model.specs.Limits.{mostActs}
+use lib.Dec.{T, eqb, eqb→eq, eqb-refl, T-not}
+use Rattle.text.specs.Set.{emptySet}
+use Rattle.text.proofs.Members.{each-of-none}
+use Rattle.model.specs.Tests.{_and_, some, accepted}
 use Rattle.model.specs.Tables.{Table, isEther, isStart}
 use Rattle.model.specs.States.{taskAt, actAt, byManager, heldBy, holds, inSets, stands}
 use Rattle.model.specs.Rules.{within, smRefusal, lmRefusal, iaRefusal, eaAllowed, eaRefusal, cxRefusal, noneIn, urgentTask, urgentAct, urgent, refusal, holderHinders, taskHinders, hindered, urgentKind}
@@ -24,7 +23,7 @@ use Rattle.model.specs.declared.TaskStep.the-variants.{St, Fm}
 use Rattle.model.specs.declared.ActStep.the-variants.{Lm, Ia, Ea, Cx, Fa}
 use Rattle.model.specs.declared.Step.{Step}
 use Rattle.model.specs.declared.Step.the-variants.{Wait, Sm, OfTask, OfAct}
-use Rattle.model.proofs.Tests.{true-T, yes-or-no, same-test, and-i, and-l, and-r, or-l, or-r, or-cases, each-mk, some-at, some-mk, each-or}
+use Rattle.model.proofs.Tests.{true-T, yes-or-no, same-test, and-i, and-l, and-r, or-l, or-r, or-cases, some-at, some-mk, each-or}
 use Rattle.model.proofs.Formed.{Formed}
 use Rattle.model.proofs.Soundness.{Sound, held-is, holder-in}
 use Rattle.model.proofs.Accepted.{sm-goes, goes-sm, lm-goes, goes-lm, ia-goes, goes-ia, ea-goes, goes-ea, cx-goes, goes-cx, fm-goes, goes-fm}
@@ -34,9 +33,9 @@ abbrev pub Hindering : Table → State → Type 0
 Hindering K s = (x : Step) × T (urgentKind s x) × (refusal K s x ≡ 0)
 
 -- the empty set is within every task
-within-none : (K : Table) (t : ℕ) → T (within K t 0)
-unfolding within bit
-within-none K t = each-mk _ mostActs (λ i h. subst⁻¹ (λ z. T (eqb (z % 2) 1 implies (ltb i (K .nacts) and eqb (K .task i) t))) (zero-div (2 ^ i)) tt)
+within-none : (K : Table) (t : ℕ) → T (within K t emptySet)
+unfolding within
+within-none K t = true-T (within K t emptySet) (each-of-none _)
 
 -- a refusal of 0 is no refusal
 zero-accepted : (n : ℕ) → n ≡ 0 → T (accepted n)
@@ -44,8 +43,8 @@ zero-accepted n e = true-T (accepted n) (eq-eqb n 0 e)
 
 module _ (K : Table) (s : State) where
   -- where some sets let `sm` in, the empty ones do
-  empty-sm : (t : ℕ) → t < K .ntasks → T (not (taskAt s t .managing)) → T (taskAt s t .signal) → smRefusal K s t 0 0 ≡ 0
-  empty-sm t h w g = goes-sm K s t 0 0 (record { inT = h; withinN = within-none K t; withinR = within-none K t; waits = w; signal = g })
+  empty-sm : (t : ℕ) → t < K .ntasks → T (not (taskAt s t .managing)) → T (taskAt s t .signal) → smRefusal K s t emptySet emptySet ≡ 0
+  empty-sm t h w g = goes-sm K s t emptySet emptySet (record { inT = h; withinN = within-none K t; withinR = within-none K t; waits = w; signal = g })
 
   -- an urgent task, an urgent activity
   by-task : (t : ℕ) → t < K .ntasks → T (urgentTask K s t) → T (urgent K s)
@@ -62,12 +61,12 @@ module _ (K : Table) (s : State) where
   some-urgent (Wait d) k ok = absurd k
   some-urgent (Sm t n r) k ok =
       let g = sm-goes K s t n r ok in
-      by-task t (g .inT) (or-l (accepted (smRefusal K s t 0 0)) _ (zero-accepted _ (empty-sm t (g .inT) (g .waits) (g .signal))))
+      by-task t (g .inT) (or-l (accepted (smRefusal K s t emptySet emptySet)) _ (zero-accepted _ (empty-sm t (g .inT) (g .waits) (g .signal))))
   some-urgent (OfTask t St) k ok = absurd k
-  some-urgent (OfTask t Fm) k ok = by-task t (fm-goes K s t ok .inT) (or-r (accepted (smRefusal K s t 0 0)) _ (or-r (some (K .nacts) (λ a. accepted (lmRefusal K s t a))) _ (zero-accepted _ ok)))
+  some-urgent (OfTask t Fm) k ok = by-task t (fm-goes K s t ok .inT) (or-r (accepted (smRefusal K s t emptySet emptySet)) _ (or-r (some (K .nacts) (λ a. accepted (lmRefusal K s t a))) _ (zero-accepted _ ok)))
   some-urgent (OfAct a (Lm t)) k ok =
       let g = lm-goes K s t a ok in
-      by-task t (g .inT) (or-r (accepted (smRefusal K s t 0 0)) _ (or-l (some (K .nacts) (λ a. accepted (lmRefusal K s t a))) _ (some-mk (λ a. accepted (lmRefusal K s t a)) (K .nacts) a (g .inA) (zero-accepted _ ok))))
+      by-task t (g .inT) (or-r (accepted (smRefusal K s t emptySet emptySet)) _ (or-l (some (K .nacts) (λ a. accepted (lmRefusal K s t a))) _ (some-mk (λ a. accepted (lmRefusal K s t a)) (K .nacts) a (g .inA) (zero-accepted _ ok))))
   some-urgent (OfAct a Ia) k ok = by-act a (ia-goes K s a ok .inA) (or-l (accepted (iaRefusal K s a)) _ (zero-accepted _ ok))
   some-urgent (OfAct a (Ea Ether)) k ok = absurd (omega arith)
   some-urgent (OfAct a (Ea (Codel c))) k ok =
@@ -86,10 +85,10 @@ module _ (K : Table) (s : State) where
           let w = some-at (urgentTask K s) (K .ntasks) v in
           let t = w .0 in
           let lms : ℕ → Bool = λ a. accepted (lmRefusal K s t a) in
-          ⊎-elim (λ h. (Sm t 0 0, tt, eqb→eq _ _ h))
+          ⊎-elim (λ h. (Sm t emptySet emptySet, tt, eqb→eq _ _ h))
           (λ r. ⊎-elim (λ q. let z = some-at lms (K .nacts) q in (OfAct (z .0) (Lm t), tt, eqb→eq _ _ (z .2))) (λ h. (OfTask t Fm, tt, eqb→eq _ _ h))
           (or-cases (some (K .nacts) lms) _ r))
-          (or-cases (accepted (smRefusal K s t 0 0)) _ (w .2))
+          (or-cases (accepted (smRefusal K s t emptySet emptySet)) _ (w .2))
 
       act : T (some (K .nacts) (urgentAct K s)) → Hindering K s
       act v =
@@ -170,7 +169,7 @@ module _ (K : Table) (F : Formed K) (s : State) (S : Sound K s) where
   of-hindering : (t : ℕ) → t < K .ntasks → T (taskHinders K s t) → Hindering K s
   unfolding refusal
   of-hindering t ht u = ⊎-elim
-      (λ w. (Sm t 0 0, tt, empty-sm K s t ht (and-l (not (x .managing)) _ w) (and-r (not (x .managing)) _ w)))
+      (λ w. (Sm t emptySet emptySet, tt, empty-sm K s t ht (and-l (not (x .managing)) _ w) (and-r (not (x .managing)) _ w)))
       (λ v. ⊎-elim (λ w. of-manager t ht (and-l (x .managing) _ w) (and-r (x .managing) _ w)) (go (x .holder) refl) (or-cases ((x .managing) and byManager (x .holder)) _ v))
       (or-cases (not (x .managing) and (x .signal)) _ u)
     where

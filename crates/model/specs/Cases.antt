@@ -59,7 +59,7 @@ abbrev pub st : ℕ → Step
 st t = OfTask t St
 
 abbrev pub sm : ℕ → ℕ → ℕ → Step
-sm t n r = Sm t n r
+sm t n r = Sm t (record { low = n; high = 0 }) (record { low = r; high = 0 })
 
 abbrev pub lm : ℕ → ℕ → Step
 lm t a = OfAct a (Lm t)

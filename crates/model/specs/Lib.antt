@@ -3,6 +3,7 @@ pub mod Limits
 pub mod Tables
 pub mod Rows
 pub mod States
+pub mod Records
 pub mod Rules
 pub mod Sound
 pub mod Logs

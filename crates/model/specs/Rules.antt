@@ -4,11 +4,13 @@ use mathlib.Core.List.{List}
 use Prim.Native.Nat.{ℕ, zero, suc, _+_, max}
 use lib.ListN.{getD, set}
 use lib.Dec.{leb, ltb, eqb}
-use Rattle.text.specs.Set.{bit}
+use Rattle.text.specs.Set.{emptySet, member, eachMember}
+use Rattle.text.specs.declared.Set.{Set}
 use Rattle.model.specs.Tests.{_and_, _or_, _implies_, each, some, need, accepted}
-use Rattle.model.specs.Limits.{mostActs, inRange, ceiling}
+use Rattle.model.specs.Limits.{inRange, ceiling}
 use Rattle.model.specs.Tables.{Table, isEther, known, isStart, isStop, hasEdge, safe}
 use Rattle.model.specs.States.{noTask, noAct, taskAt, actAt, byManager, holds, inSets, stands, executes, clearAt}
+use Rattle.model.specs.Records.{withTimer, withSignal, withManaging, withHolder, withCycle, withOpened, withMissed, withLongest, withPlace, withExecuting, withClock, inLists, withDate, withTasks, withActs}
 use Rattle.model.specs.declared.Task.{Task}
 use Rattle.model.specs.declared.Act.{Act}
 use Rattle.model.specs.declared.State.{State}
@@ -27,22 +29,22 @@ use Rattle.model.specs.declared.Line.the-variants as line
 
 -- "Enter c" means: clock 0; executing if c is thread safe, else standing before it.
 abbrev pub entered : Table → ℕ → Act → Act
-entered K c y = record { place = Codel c; executing = safe K c; clock = 0; run = y .run; halt = y .halt }
+entered K c y = withPlace (Codel c) (withExecuting (safe K c) (withClock 0 y))
 
 -- "Give back" means: A leaves N and R, stops executing, its clock becomes 0, and the manager holds: A's record at the place p, and its
 -- task's, whose longest is at least the clock k.
 abbrev pub rested : Place → Act
-rested p = record { place = p; executing = false; clock = 0; run = false; halt = false }
+rested p = withPlace p noAct
 
 abbrev pub held : Holder → ℕ → Task → Task
-held h k x = record { timer = x .timer; signal = x .signal; managing = x .managing; holder = h; cycle = x .cycle; opened = x .opened; missed = x .missed; longest = max (x .longest) k }
+held h k x = withHolder h (withLongest (max (x .longest) k) x)
 
 -- a state with one task's record anew; with one task's and one activity's
 abbrev pub putTask : State → ℕ → Task → State
-putTask s t x = record { date = s .date; tasks = set (s .tasks) t x; acts = s .acts }
+putTask s t x = withTasks (set (s .tasks) t x) s
 
 abbrev pub putBoth : State → ℕ → Task → ℕ → Act → State
-putBoth s t x a y = record { date = s .date; tasks = set (s .tasks) t x; acts = set (s .acts) a y }
+putBoth s t x a y = withActs (set (s .acts) a y) (putTask s t x)
 
 -- each of the first n rows of a list anew, by a function that is told the row's number
 unfoldable pub anew : {A : Type 0} → ℕ → (ℕ → A → A) → A → List A → List A
@@ -61,31 +63,31 @@ oneMore true n = n + 1
 oneMore false n = n
 
 abbrev pub signalled : Task → Task
-signalled x = record { timer = 0; signal = true; managing = x .managing; holder = x .holder; cycle = x .cycle; opened = x .opened; missed = oneMore ((x .signal) and (x .managing)) (x .missed); longest = x .longest }
+signalled x = withTimer 0 (withSignal true (withMissed (oneMore ((x .signal) and (x .managing)) (x .missed)) x))
 
 abbrev pub stNext : State → ℕ → State
 stNext s t = putTask s t (signalled (taskAt s t))
 
 -- "`sm` task N R: manager waiting, signal set. Signal cleared, managing, sets as given (they may overlap), cycle number up by 1, open
 -- date = date." 12: "a set outside its task"
-unfoldable pub within : Table → ℕ → ℕ → Bool
-within K t n = each mostActs (λ i. bit n i implies (ltb i (K .nacts) and eqb (K .task i) t))
+unfoldable pub within : Table → ℕ → Set → Bool
+within K t n = eachMember n (λ i. ltb i (K .nacts) and eqb (K .task i) t)
 
-abbrev pub smRefusal : Table → State → ℕ → ℕ → ℕ → ℕ
+abbrev pub smRefusal : Table → State → ℕ → Set → Set → ℕ
 smRefusal K s t n r =
     need (ltb t (K .ntasks) and within K t n and within K t r) 12
     (need (not (taskAt s t .managing) and (taskAt s t .signal)) 13
     0)
 
 abbrev pub managed : ℕ → Task → Task
-managed date x = record { timer = x .timer; signal = false; managing = true; holder = x .holder; cycle = x .cycle + 1; opened = date; missed = x .missed; longest = x .longest }
+managed date x = withSignal false (withManaging true (withCycle (x .cycle + 1) (withOpened date x)))
 
-abbrev pub listed : Bool → ℕ → ℕ → ℕ → Act → Act
-listed true n r a y = record { place = y .place; executing = y .executing; clock = y .clock; run = bit n a; halt = bit r a }
+abbrev pub listed : Bool → Set → Set → ℕ → Act → Act
+listed true n r a y = inLists (member n a) (member r a) y
 listed false n r a y = y
 
-abbrev pub smNext : Table → State → ℕ → ℕ → ℕ → State
-smNext K s t n r = record { date = s .date; tasks = set (s .tasks) t (managed (s .date) (taskAt s t)); acts = anew (K .nacts) (λ a. listed (eqb (K .task a) t) n r a) noAct (s .acts) }
+abbrev pub smNext : Table → State → ℕ → Set → Set → State
+smNext K s t n r = withActs (anew (K .nacts) (λ a. listed (eqb (K .task a) t) n r a) noAct (s .acts)) (putTask s t (managed (s .date) (taskAt s t)))
 
 -- "`lm` task A: managing and holding, A in N or R. A holds; if A is not in R and is at a codel, it enters that codel again."
 abbrev pub lmRefusal : Table → State → ℕ → ℕ → ℕ
@@ -123,7 +125,7 @@ abbrev pub stopOf : Table → ℕ → Place
 stopOf K a = first (K .ncodels) (isStop K a)
 
 abbrev pub outOfR : Act → Act
-outOfR y = record { place = y .place; executing = y .executing; clock = y .clock; run = y .run; halt = false }
+outOfR y = inLists (y .run) false y
 
 abbrev pub iaTo : Table → State → ℕ → Place → State
 iaTo K s a Ether = putBoth s (K .task a) (held Manager 0 (taskAt s (K .task a))) a (rested Ether)
@@ -160,7 +162,7 @@ cxRefusal K s a =
     0))
 
 abbrev pub begun : Act → Act
-begun y = record { place = y .place; executing = true; clock = 0; run = y .run; halt = y .halt }
+begun y = withExecuting true (withClock 0 y)
 
 abbrev pub cxNext : Table → State → ℕ → State
 cxNext K s a = putBoth s (K .task a) (taskAt s (K .task a)) a (begun (actAt s a))
@@ -191,14 +193,14 @@ fmRefusal K s t =
     0)
 
 abbrev pub closed : Task → Task
-closed x = record { timer = x .timer; signal = x .signal; managing = false; holder = x .holder; cycle = x .cycle; opened = 0; missed = 0; longest = 0 }
+closed x = withManaging false (withOpened 0 (withMissed 0 (withLongest 0 x)))
 
 abbrev pub fmNext : State → ℕ → State
 fmNext s t = putTask s t (closed (taskAt s t))
 
 -- 16: "`wait` while some `sm`, `lm`, `ia`, `cx`, `fm` or `ea` from ether would be accepted". Where some sets let `sm` in, the empty ones do.
 unfoldable pub urgentTask : Table → State → ℕ → Bool
-urgentTask K s t = accepted (smRefusal K s t 0 0) or some (K .nacts) (λ a. accepted (lmRefusal K s t a)) or accepted (fmRefusal K s t)
+urgentTask K s t = accepted (smRefusal K s t emptySet emptySet) or some (K .nacts) (λ a. accepted (lmRefusal K s t a)) or accepted (fmRefusal K s t)
 
 unfoldable pub urgentAct : Table → State → ℕ → Bool
 urgentAct K s a =
@@ -225,17 +227,17 @@ waitRefusal K s d =
     0)))
 
 abbrev pub timed : ℕ → Task → Task
-timed d x = record { timer = x .timer + d; signal = x .signal; managing = x .managing; holder = x .holder; cycle = x .cycle; opened = x .opened; missed = x .missed; longest = x .longest }
+timed d x = withTimer (x .timer + d) x
 
 abbrev pub aged : Bool → ℕ → ℕ → ℕ
 aged true d k = k + d
 aged false d k = k
 
 abbrev pub clocked : ℕ → Act → Act
-clocked d y = record { place = y .place; executing = y .executing; clock = aged (y .executing) d (y .clock); run = y .run; halt = y .halt }
+clocked d y = withClock (aged (y .executing) d (y .clock)) y
 
 abbrev pub waitNext : Table → State → ℕ → State
-waitNext K s d = record { date = s .date + d; tasks = anew (K .ntasks) (λ t. timed d) noTask (s .tasks); acts = anew (K .nacts) (λ a. clocked d) noAct (s .acts) }
+waitNext K s d = withDate (s .date + d) (withTasks (anew (K .ntasks) (λ t. timed d) noTask (s .tasks)) (withActs (anew (K .nacts) (λ a. clocked d) noAct (s .acts)) s))
 
 -- a step's refusal, and the state after it where it is accepted: of a task's step, of an activity's, of any
 abbrev pub taskRefusal : Table → State → ℕ → TaskStep → ℕ

@@ -1,5 +1,5 @@
 -- The sound state: one test for each sentence of document 01, in the page's words.
-use mathlib.Core.Bool.{Bool, true, false, not}
+use mathlib.Core.Bool.{Bool, true, false, not, cond}
 use Prim.Native.Nat.{ℕ, _+_}
 use lib.Dec.{leb, ltb, eqb}
 use Rattle.model.specs.Tests.{_and_, _or_, _implies_, one, each}
@@ -14,7 +14,7 @@ use Rattle.model.specs.declared.Place.the-variants.{Ether, Codel}
 use Rattle.model.specs.declared.Holder.{Holder}
 use Rattle.model.specs.declared.Holder.the-variants.{Manager, Activity}
 
--- Of an activity a. m: its task manages; h: it holds; r, l: it is in N, in R; p: its place; e: executing; k: its clock.
+-- Of an activity a, whose record is y and whose task's record is x.
 -- "N and R within the task" holds of itself: each activity keeps its own place in the sets of its own task.
 
 -- "each activity at ether or a codel of its own"
@@ -23,51 +23,55 @@ atOwn K a Ether = true
 atOwn K a (Codel c) = ltb c (K .ncodels) and eqb (K .owner c) a
 
 -- "a waiting manager .. has N and R empty"
-abbrev pub setsWhileManaging : Bool → Bool → Bool → Bool
-setsWhileManaging m r l = (r or l) implies m
+abbrev pub setsWhileManaging : Task → Act → Bool
+setsWhileManaging x y = ((y .run) or (y .halt)) implies (x .managing)
 
 -- "an activity that is not the holder is at ether or at the target of a pause, not executing; so is a holder in R"
 abbrev pub mayRest : Table → Place → Bool
 mayRest K Ether = true
 mayRest K (Codel c) = pausable K c
 
-abbrev pub restsUnlessRunning : Table → Bool → Bool → Place → Bool → Bool
-restsUnlessRunning K h l p e = not (h and not l) implies (mayRest K p and not e)
+abbrev pub restsUnlessRunning : Table → ℕ → Task → Act → Bool
+restsUnlessRunning K a x y = not (heldBy (x .holder) a and not (y .halt)) implies (mayRest K (y .place) and not (y .executing))
 
 -- "a holder at ether is in N or R"
-abbrev pub listedAtEther : Bool → Bool → Bool → Place → Bool
-listedAtEther h r l p = (h and isEther p) implies (r or l)
+abbrev pub listedAtEther : ℕ → Task → Act → Bool
+listedAtEther a x y = (heldBy (x .holder) a and isEther (y .place)) implies ((y .run) or (y .halt))
 
 -- "nothing executes at ether"
-abbrev pub stillAtEther : Place → Bool → Bool
-stillAtEther p e = isEther p implies not e
+abbrev pub stillAtEther : Act → Bool
+stillAtEther y = isEther (y .place) implies not (y .executing)
 
 -- "a holder not in R at a thread-safe codel executes"
 abbrev pub atSafe : Table → Place → Bool
 atSafe K Ether = false
 atSafe K (Codel c) = safe K c
 
-abbrev pub executesWhenSafe : Table → Bool → Bool → Place → Bool → Bool
-executesWhenSafe K h l p e = (h and not l and atSafe K p) implies e
+abbrev pub executesWhenSafe : Table → ℕ → Task → Act → Bool
+executesWhenSafe K a x y = (heldBy (x .holder) a and not (y .halt) and atSafe K (y .place)) implies (y .executing)
 
 -- "an executing clock is at most the limit, every other clock is 0"
-abbrev pub clockOk : Table → Place → Bool → ℕ → Bool
-clockOk K p false k = eqb k 0
-clockOk K Ether true k = false
-clockOk K (Codel c) true k = leb k (K .limit c)
+abbrev pub inLimit : Table → ℕ → Place → Bool
+inLimit K k Ether = false
+inLimit K k (Codel c) = leb k (K .limit c)
 
-abbrev pub fine : Table → ℕ → Bool → Bool → Bool → Bool → Place → Bool → ℕ → Bool
-fine K a m h r l p e k =
-    atOwn K a p
-    and setsWhileManaging m r l
-    and restsUnlessRunning K h l p e
-    and listedAtEther h r l p
-    and stillAtEther p e
-    and executesWhenSafe K h l p e
-    and clockOk K p e k
+abbrev pub clockOk : Table → Act → Bool
+clockOk K y = cond (y .executing) (inLimit K (y .clock) (y .place)) (eqb (y .clock) 0)
+
+-- those that ask who holds, or what the rows say of a place
+abbrev pub finePlace : Table → ℕ → Task → Act → Bool
+finePlace K a x y =
+    restsUnlessRunning K a x y
+    and listedAtEther a x y
+    and stillAtEther y
+    and executesWhenSafe K a x y
+    and clockOk K y
 
 abbrev pub fineAct : Table → ℕ → Task → Act → Bool
-fineAct K a x y = fine K a (x .managing) (heldBy (x .holder) a) (y .run) (y .halt) (y .place) (y .executing) (y .clock)
+fineAct K a x y =
+    atOwn K a (y .place)
+    and setsWhileManaging x y
+    and finePlace K a x y
 
 -- Of a task t.
 

@@ -1,6 +1,6 @@
 -- How many steps other than waits a state still allows at most before time must pass: a number for each task and each activity. It is
 -- what demand 3's bound is proved by; nothing in document 01 names it.
-use mathlib.Core.Bool.{Bool, true, false}
+use mathlib.Core.Bool.{cond}
 use Prim.Native.Nat.{ℕ, _+_, _*_}
 use lib.Dec.{leb, eqb}
 use Rattle.model.specs.Tests.{_and_, _or_, one, sum}
@@ -19,16 +19,16 @@ rounds period x = one (x .signal) + one (eqb (x .timer) period)
 abbrev pub weightTask : ℕ → Task → ℕ
 weightTask period x = one (eqb (x .timer) period) + 2 * rounds period x + one ((x .managing) and byManager (x .holder))
 
--- h: it holds; r, l: in N, in R; p: its place; e: executing; k: its clock
-abbrev pub left : Bool → Bool → Bool → Place → Bool → ℕ → ℕ
-left false r l p e k = 2 * one (r or l)
-left true r true p e k = 2
-left true r false Ether e k = 2
-left true r false (Codel c) false k = 1
-left true r false (Codel c) true k = 2 * one (leb 1 k)
+-- of a holder not in R, at a place
+abbrev pub leftAt : Act → Place → ℕ
+leftAt y Ether = 2
+leftAt y (Codel c) = cond (y .executing) (2 * one (leb 1 (y .clock))) 1
+
+abbrev pub left : ℕ → Task → Act → ℕ
+left a x y = cond (heldBy (x .holder) a) (cond (y .halt) 2 (leftAt y (y .place))) (2 * one ((y .run) or (y .halt)))
 
 abbrev pub weightAct : ℕ → ℕ → Task → Act → ℕ
-weightAct period a x y = 2 * rounds period x + left (heldBy (x .holder) a) (y .run) (y .halt) (y .place) (y .executing) (y .clock)
+weightAct period a x y = 2 * rounds period x + left a x y
 
 unfoldable pub taskSum : Table → State → ℕ
 taskSum K s = sum (K .ntasks) (λ t. weightTask (K .period t) (taskAt s t))

@@ -1,5 +1,8 @@
 // The component as document 01 sees it while it runs: the state, and the steps that change it. The rules are in specs/, and what is
-// proved of them in proofs/; there is no code here.
+// proved of them in proofs/; the only code here is a limit's test.
+ghost use mathlib.Core.Path.{_≡_};
+ghost use Rattle.model.specs.Limits.{inRange};
+use text::Set;
 
 // How many tasks a table may have.
 pub const MOST_TASKS: usize = 16;
@@ -80,7 +83,7 @@ pub enum ActStep {
 // A step, with the numbers and sets of its log line: what it is of, and then which.
 pub enum Step {
     Wait(u64),
-    Sm(usize, u64, u64),
+    Sm(usize, Set, Set),
     OfTask(usize, TaskStep),
     OfAct(usize, ActStep),
 }
@@ -89,4 +92,14 @@ pub enum Step {
 pub enum Line {
     Is(Step),
     Bad,
+}
+
+// Is it a period, a keep, a limit, or the d of a wait?
+pub fn in_range(n: u64) -> bool
+    ensures { λ r. ⌜ r ≡ inRange n ⌝ }
+{
+    if n < 1 {
+        return false;
+    }
+    n <= MOST_TICKS
 }

@@ -1,5 +1,5 @@
 -- The mutex rows of two codels, told by those of the smaller.
-use Prim.Native.Nat.{ℕ, _+_, _*_, _≤_, _<_}
+use Prim.Native.Nat.{ℕ, _+_, _≤_, _<_}
 use mathlib.Core.Bool.{Bool, true, false}
 use mathlib.Core.List.{List}
 use mathlib.Core.Logic.{⊎-elim}
@@ -8,11 +8,13 @@ use native.Mathlib.Omega.{arith}
 use lib.ListN.{getD}
 use lib.Dec.{T, eqb, eqb→eq}
 use borrow.Author.Tests.{eq-eqb, ne-eqb}
+use Rattle.row.specs.Kinds.{formOf}
+use Rattle.table.specs.Tables.{tableOf}
 use Rattle.model.specs.Tests.{_and_, _or_}
 use Rattle.model.specs.Tables.{Table}
 use Rattle.model.proofs.Tests.{true-T, same-test, and-i, and-l, and-r, or-l, or-r, or-cases, some-at, some-mk}
 use Rattle.prepared.specs.Prepared.{tableIn, pairsFromAt, pairsEndAt, Prepared, conflict}
-use Rattle.prepared.proofs.Stored.{shape, upper-at}
+use Rattle.prepared.proofs.Stored.{cell, shape, number-is}
 use Rattle.prepared.proofs.Walks.{Passed, found, absent}
 
 -- either codel may be named first
@@ -41,19 +43,20 @@ rising-pair a b lo hi h l =
 
 -- a stored mutex row has that larger codel
 abbrev pub pairHit : List ℕ → ℕ → ℕ → Bool
-pairHit rows hi m = eqb (getD rows (2544 + 3 * m + 1) 0) hi
+pairHit rows hi m = eqb (cell rows 4 m 1) hi
 
-module _ (rows : List ℕ) (hi m x : ℕ) (e : x ≡ getD rows (2544 + 3 * m + 1) 0) where
+module _ (rows : List ℕ) (hi m n x : ℕ) (d : n ≡ cell rows 4 m 1) (e : x ≡ n) where
   pub pair-same : x ≡ hi → pairHit rows hi m ≡ true
-  pair-same q = eq-eqb _ _ (sym e ∙ q)
+  pair-same q = eq-eqb _ _ (sym (e ∙ d) ∙ q)
 
   pub pair-other : (x ≡ hi → ⊥) → pairHit rows hi m ≡ false
-  pair-other n = ne-eqb _ _ (λ q. n (e ∙ q))
+  pair-other o = ne-eqb _ _ (λ q. o (e ∙ d ∙ q))
 
 module _ {rows index : List ℕ} (P : Prepared rows index) (lo hi : ℕ) (l : lo ≤ hi) where
   pair-row : (m : ℕ) → m < tableIn rows index .nmutex → ((eqb (tableIn rows index .mutex m .lo) lo and eqb (tableIn rows index .mutex m .hi) hi) or (eqb (tableIn rows index .mutex m .lo) hi and eqb (tableIn rows index .mutex m .hi) lo)) ≡ (eqb (tableIn rows index .mutex m .lo) lo and pairHit rows hi m)
+  unfolding tableOf formOf
   pair-row m h =
-      let x : getD rows (2544 + 3 * m + 1) 0 ≡ tableIn rows index .mutex m .hi = upper-at _ _ (P .formed) m _ h refl in
+      let x : cell rows 4 m 1 ≡ tableIn rows index .mutex m .hi = number-is P 4 m 1 (omega arith) h (omega arith) refl _ _ refl refl in
       rw x (rising-pair _ _ lo hi (shape P .rising m h) l)
 
   -- the walk over the mutex rows of the smaller codel

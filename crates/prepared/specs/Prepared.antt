@@ -1,47 +1,59 @@
 -- A prepared table: the rows as the table by value has them, and an index of what lookups need: the counts, and what follows from the rows.
-use Prim.Native.Nat.{ℕ, zero, suc, _+_, _≤_, _<_}
+use Prim.Native.Nat.{ℕ, zero, suc, _+_, _*_, _≤_, _<_}
 use mathlib.Core.List.{List}
 use mathlib.Core.Bool.{Bool, true}
 use mathlib.Core.Path.{_≡_}
 use lib.ListN.{length, getD, take}
 use lib.Dec.{eqb, ltb}
 use Rattle.text.specs.Parts.{pick}
+use Rattle.row.specs.Kinds.{storedKinds, mostFields}
 use Rattle.table.specs.Tables.{slots, made, tableOf, etherSlot}
 use Rattle.model.specs.Tests.{_and_, _or_, some}
+use Rattle.model.specs.Limits.{mostTasks, mostActs, mostCodels}
 use Rattle.model.specs.Tables.{Table, EdgeRow, isStart, safe}
 use Rattle.model.specs.Rows.{wellformed}
 use Rattle.model.specs.Rules.{stopOf}
 use Rattle.model.specs.declared.Place.{Place}
 use Rattle.model.specs.declared.Place.the-variants.{Ether, Codel}
 
--- where each part of the index begins, and how long it is
+-- the counts come first; then a number that nothing asks for; then where each part of the index begins, and how long it is
+abbrev pub nowhere : ℕ
+nowhere = storedKinds
+
 abbrev pub safeAt : ℕ
-safeAt = 8
+safeAt = nowhere + 1
 
 abbrev pub edgesAt : ℕ
-edgesAt = 264
+edgesAt = safeAt + mostCodels
 
 abbrev pub pairsFromAt : ℕ
-pairsFromAt = 520
+pairsFromAt = edgesAt + mostCodels
 
 abbrev pub pairsEndAt : ℕ
-pairsEndAt = 776
+pairsEndAt = pairsFromAt + mostCodels
 
 abbrev pub startsAt : ℕ
-startsAt = 1032
+startsAt = pairsEndAt + mostCodels
 
 abbrev pub stopsAt : ℕ
-stopsAt = 1096
+stopsAt = startsAt + mostActs
 
 abbrev pub actsAt : ℕ
-actsAt = 1160
+actsAt = stopsAt + mostActs
 
 abbrev pub indexLength : ℕ
-indexLength = 1176
+indexLength = actsAt + mostTasks
+
+-- number j of row i of the rows that begin at a place
+abbrev pub numberPlace : ℕ → ℕ → ℕ → ℕ
+numberPlace at i j = at + mostFields * i + j
+
+abbrev pub numberIn : List ℕ → ℕ → ℕ → ℕ → ℕ
+numberIn rows at i j = getD rows (numberPlace at i j) 0
 
 -- what the rules see: the counts of the index with the rows
 abbrev pub tableIn : List ℕ → List ℕ → Table
-tableIn rows index = tableOf (made (take 5 index) rows)
+tableIn rows index = tableOf (made (take storedKinds index) rows)
 
 -- the rows of one kind that belong to row i stand together: they end where the index says, and begin where those of the row before end
 abbrev pub beginOf : List ℕ → ℕ → ℕ → ℕ
@@ -51,9 +63,9 @@ beginOf index at (suc i) = getD index (at + i) 0
 abbrev pub endOf : List ℕ → ℕ → ℕ → ℕ
 endOf index at i = getD index (at + i) 0
 
--- an activity's stop as the index has it: 256 for none
+-- an activity's stop as the index has it; no codel has this number
 abbrev pub noStop : ℕ
-noStop = 256
+noStop = mostCodels
 
 abbrev pub stopIn : ℕ → Place
 stopIn c = pick (eqb c noStop) Ether (Codel c)
@@ -85,7 +97,7 @@ pub record Prepared (rows index : List ℕ) : Type 0 where
 -- a place as a stored target, where its codel is small enough
 abbrev pub small : Place → Bool
 small Ether = true
-small (Codel c) = ltb c 256
+small (Codel c) = ltb c mostCodels
 
 abbrev pub slotIn : Place → ℕ
 slotIn Ether = etherSlot

@@ -1,44 +1,50 @@
 // The prepared table: lookups in the rows of an accepted table, by an index of what follows from them. Each answers as the model's definition.
 ghost use mathlib.Core.Path.{_≡_};
 ghost use Prim.Native.Nat.{_+_, _<_, _≤_};
-ghost use lib.ListN.{length};
+ghost use lib.ListN.{length, getD, take};
 ghost use Rattle.model.specs.Tables.{safe, hasEdge, isStart, known};
 ghost use Rattle.model.specs.Rules.{stopOf};
 ghost use lib.Dec.{T, ltb};
 ghost use Rattle.model.specs.Tests.{sameBool};
-ghost use Rattle.prepared.specs.Prepared.{tableIn, beginOf, endOf, actsAt, small, slotIn, pauseOf, Prepared, conflict};
+ghost use Rattle.row.specs.Kinds.{storedKinds};
+ghost use Rattle.prepared.specs.Prepared.{indexLength, numberPlace, numberIn, tableIn, beginOf, endOf, actsAt, small, slotIn, pauseOf, Prepared, conflict};
 use model::Place;
 
-// How many numbers an index takes.
-pub const INDEX: usize = 1176;
+// Where the index has a number that nothing asks for, behind the counts of each kind.
+pub const NOWHERE: usize = row::STORED;
 
 // Where each part of the index begins: thread-safe codels, the ends of each codel's edges, the beginnings and ends of the mutex rows of
 // each smaller codel, the starts and stops of activities, the ends of each task's activities.
-pub const SAFE: usize = 8;
+pub const SAFE: usize = NOWHERE + 1;
 
-pub const EDGES: usize = 264;
+pub const EDGES: usize = SAFE + model::MOST_CODELS;
 
-pub const PAIRS_FROM: usize = 520;
+pub const PAIRS_FROM: usize = EDGES + model::MOST_CODELS;
 
-pub const PAIRS_END: usize = 776;
+pub const PAIRS_END: usize = PAIRS_FROM + model::MOST_CODELS;
 
-pub const STARTS: usize = 1032;
+pub const STARTS: usize = PAIRS_END + model::MOST_CODELS;
 
-pub const STOPS: usize = 1096;
+pub const STOPS: usize = STARTS + model::MOST_ACTS;
 
-pub const ACTS: usize = 1160;
+pub const ACTS: usize = STOPS + model::MOST_ACTS;
+
+// How many numbers an index takes.
+pub const INDEX: usize = ACTS + model::MOST_TASKS;
 
 // An activity without stop.
-pub const NO_STOP: u32 = 256;
+pub const NO_STOP: u32 = model::MOST_CODELS as u32;
 
-// Where the rows of each kind begin, three numbers a row; those of the tasks begin at 0.
-pub const ACT_ROWS: usize = 48;
+// Where the rows of each kind begin.
+const TASK_ROWS: usize = 0;
 
-pub const CODEL_ROWS: usize = 240;
+pub const ACT_ROWS: usize = row::FIELDS * table::ACT_BASE;
 
-pub const EDGE_ROWS: usize = 1008;
+pub const CODEL_ROWS: usize = row::FIELDS * table::CODEL_BASE;
 
-pub const MUTEX_ROWS: usize = 2544;
+pub const EDGE_ROWS: usize = row::FIELDS * table::EDGE_BASE;
+
+pub const MUTEX_ROWS: usize = row::FIELDS * table::MUTEX_BASE;
 
 // A stored number as a size.
 pub fn size(x: u32) -> usize
@@ -53,12 +59,28 @@ fn wide(x: u32) -> u64
     x as u64
 }
 
+// How many rows of a kind there are.
+fn count(index: &[u32], k: usize) -> usize
+    requires { ⌜ (length (now index) ≡ indexLength) × (k < storedKinds) ⌝ }
+    ensures { λ r. ⌜ r ≡ getD (take storedKinds (now (index .entry))) k 0 ⌝ }
+{
+    size(index[k])
+}
+
+// Number j of row i of the rows that begin at a place.
+pub fn number(rows: &[u32], at: usize, i: usize, j: usize) -> u32
+    requires { ⌜ numberPlace at i j < length (now rows) ⌝ }
+    ensures { λ r. ⌜ r ≡ numberIn (now (rows .entry)) at i j ⌝ }
+{
+    rows[at + row::FIELDS * i + j]
+}
+
 // How many tasks there are.
 pub fn tasks(rows: &[u32], index: &[u32]) -> usize
     requires { ⌜ Prepared (now rows) (now index) ⌝ }
     ensures { λ r. ⌜ r ≡ tableIn (now (rows .entry)) (now (index .entry)) .ntasks ⌝ }
 {
-    size(index[0])
+    count(index, 0)
 }
 
 // How many activities there are.
@@ -66,7 +88,7 @@ pub fn acts(rows: &[u32], index: &[u32]) -> usize
     requires { ⌜ Prepared (now rows) (now index) ⌝ }
     ensures { λ r. ⌜ r ≡ tableIn (now (rows .entry)) (now (index .entry)) .nacts ⌝ }
 {
-    size(index[1])
+    count(index, 1)
 }
 
 // How many codels there are.
@@ -74,7 +96,7 @@ pub fn codels(rows: &[u32], index: &[u32]) -> usize
     requires { ⌜ Prepared (now rows) (now index) ⌝ }
     ensures { λ r. ⌜ r ≡ tableIn (now (rows .entry)) (now (index .entry)) .ncodels ⌝ }
 {
-    size(index[2])
+    count(index, 2)
 }
 
 // How many edges there are.
@@ -82,7 +104,7 @@ pub fn edge_count(rows: &[u32], index: &[u32]) -> usize
     requires { ⌜ Prepared (now rows) (now index) ⌝ }
     ensures { λ r. ⌜ r ≡ tableIn (now (rows .entry)) (now (index .entry)) .nedges ⌝ }
 {
-    size(index[3])
+    count(index, 3)
 }
 
 // How many mutex rows there are.
@@ -90,7 +112,7 @@ pub fn mutex_count(rows: &[u32], index: &[u32]) -> usize
     requires { ⌜ Prepared (now rows) (now index) ⌝ }
     ensures { λ r. ⌜ r ≡ tableIn (now (rows .entry)) (now (index .entry)) .nmutex ⌝ }
 {
-    size(index[4])
+    count(index, 4)
 }
 
 // A task's period.
@@ -98,7 +120,7 @@ pub fn period_of(rows: &[u32], index: &[u32], t: usize) -> u64
     requires { ⌜ Prepared (now rows) (now index) × (t < tableIn (now rows) (now index) .ntasks) ⌝ }
     ensures { λ r. ⌜ r ≡ tableIn (now (rows .entry)) (now (index .entry)) .period t ⌝ }
 {
-    wide(rows[3 * t])
+    wide(number(rows, TASK_ROWS, t, 0))
 }
 
 // A task's keep.
@@ -106,7 +128,7 @@ pub fn keep_of(rows: &[u32], index: &[u32], t: usize) -> u64
     requires { ⌜ Prepared (now rows) (now index) × (t < tableIn (now rows) (now index) .ntasks) ⌝ }
     ensures { λ r. ⌜ r ≡ tableIn (now (rows .entry)) (now (index .entry)) .keep t ⌝ }
 {
-    wide(rows[3 * t + 1])
+    wide(number(rows, TASK_ROWS, t, 1))
 }
 
 // An activity's task.
@@ -114,7 +136,7 @@ pub fn task_of(rows: &[u32], index: &[u32], a: usize) -> usize
     requires { ⌜ Prepared (now rows) (now index) × (a < tableIn (now rows) (now index) .nacts) ⌝ }
     ensures { λ r. ⌜ r ≡ tableIn (now (rows .entry)) (now (index .entry)) .task a ⌝ }
 {
-    size(rows[ACT_ROWS + 3 * a])
+    size(number(rows, ACT_ROWS, a, 0))
 }
 
 // A codel's activity.
@@ -122,7 +144,7 @@ pub fn owner_of(rows: &[u32], index: &[u32], c: usize) -> usize
     requires { ⌜ Prepared (now rows) (now index) × (c < tableIn (now rows) (now index) .ncodels) ⌝ }
     ensures { λ r. ⌜ r ≡ tableIn (now (rows .entry)) (now (index .entry)) .owner c ⌝ }
 {
-    size(rows[CODEL_ROWS + 3 * c])
+    size(number(rows, CODEL_ROWS, c, 0))
 }
 
 // A codel's limit.
@@ -130,7 +152,7 @@ pub fn limit_of(rows: &[u32], index: &[u32], c: usize) -> u64
     requires { ⌜ Prepared (now rows) (now index) × (c < tableIn (now rows) (now index) .ncodels) ⌝ }
     ensures { λ r. ⌜ r ≡ tableIn (now (rows .entry)) (now (index .entry)) .limit c ⌝ }
 {
-    wide(rows[CODEL_ROWS + 3 * c + 2])
+    wide(number(rows, CODEL_ROWS, c, 2))
 }
 
 // Is a codel thread safe?
@@ -193,10 +215,10 @@ pub fn pause_of(rows: &[u32], index: &[u32], e: usize) -> Place
     requires { ⌜ Prepared (now rows) (now index) × (e < tableIn (now rows) (now index) .nedges) ⌝ }
     ensures { λ r. ⌜ r ≡ pauseOf (tableIn (now (rows .entry)) (now (index .entry)) .edge e) ⌝ }
 {
-    if rows[EDGE_ROWS + 3 * e + 2] == 0 {
+    if number(rows, EDGE_ROWS, e, 2) == 0 {
         return Place::Ether;
     }
-    let target = rows[EDGE_ROWS + 3 * e + 1];
+    let target = number(rows, EDGE_ROWS, e, 1);
     if target == table::ETHER_SLOT {
         return Place::Ether;
     }
@@ -208,7 +230,7 @@ pub fn lower_of(rows: &[u32], index: &[u32], m: usize) -> usize
     requires { ⌜ Prepared (now rows) (now index) × (m < tableIn (now rows) (now index) .nmutex) ⌝ }
     ensures { λ r. ⌜ r ≡ tableIn (now (rows .entry)) (now (index .entry)) .mutex m .lo ⌝ }
 {
-    size(rows[MUTEX_ROWS + 3 * m])
+    size(number(rows, MUTEX_ROWS, m, 0))
 }
 
 // The larger codel of a mutex row.
@@ -216,7 +238,7 @@ pub fn upper_of(rows: &[u32], index: &[u32], m: usize) -> usize
     requires { ⌜ Prepared (now rows) (now index) × (m < tableIn (now rows) (now index) .nmutex) ⌝ }
     ensures { λ r. ⌜ r ≡ tableIn (now (rows .entry)) (now (index .entry)) .mutex m .hi ⌝ }
 {
-    size(rows[MUTEX_ROWS + 3 * m + 1])
+    size(number(rows, MUTEX_ROWS, m, 1))
 }
 
 // A place as a stored target.
@@ -249,8 +271,8 @@ pub fn has_edge(rows: &[u32], index: &[u32], c: usize, p: Place, pause: bool) ->
     let end = size(index[EDGES + c]);
     let mut e = rows_begin(index, EDGES, c);
     while e < end {
-        if rows[EDGE_ROWS + 3 * e + 1] == target {
-            if is_mode(rows[EDGE_ROWS + 3 * e + 2], pause) {
+        if number(rows, EDGE_ROWS, e, 1) == target {
+            if is_mode(number(rows, EDGE_ROWS, e, 2), pause) {
                 return true;
             }
         }
@@ -278,7 +300,7 @@ fn has_pair(rows: &[u32], index: &[u32], lo: usize, hi: usize) -> bool
     let end = size(index[PAIRS_END + lo]);
     let mut m = size(index[PAIRS_FROM + lo]);
     while m < end {
-        if size(rows[MUTEX_ROWS + 3 * m + 1]) == hi {
+        if size(number(rows, MUTEX_ROWS, m, 1)) == hi {
             return true;
         }
         m += 1;

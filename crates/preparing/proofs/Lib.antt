@@ -4,6 +4,6 @@ pub mod Ends
 pub mod Noted
 pub mod Pairs
 pub mod Cells
-pub mod Turns
+pub mod Filling
 pub mod Whole
 pub mod Unique

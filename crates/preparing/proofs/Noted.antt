@@ -1,5 +1,5 @@
 -- Each activity's start and stop: what the codels of these kinds, each alone of its kind, leave in the index.
-use Prim.Native.Nat.{ℕ, zero, suc, _+_, _≤_, _<_}
+use Prim.Native.Nat.{ℕ, zero, suc, _+_, _*_, _≤_, _<_}
 use mathlib.Core.Bool.{Bool}
 use mathlib.Core.List.{List}
 use mathlib.Core.Logic.{⊎-elim}
@@ -14,8 +14,8 @@ use Rattle.model.specs.Tables.{Table, isStart, isStop}
 use Rattle.model.specs.Rules.{first, stopOf}
 use Rattle.model.specs.declared.Place.the-variants.{Ether, Codel}
 use Rattle.model.proofs.Tests.{T-true, true-T, same-test, last-or}
-use Rattle.prepared.specs.Prepared.{startsAt, stopsAt, indexLength, noStop, stopIn}
-use Rattle.preparing.specs.Filling.{nowhere, kindPlace, kindsNoted}
+use Rattle.prepared.specs.Prepared.{nowhere, startsAt, stopsAt, indexLength, noStop, stopIn}
+use Rattle.preparing.specs.Filling.{kindPlace, kindsNoted}
 use Rattle.preparing.proofs.Stages.{Off, kindAt, kinds-off, kinds-last}
 use Rattle.preparing.proofs.Ordered.{Is, is-kind, kind-is}
 
@@ -24,11 +24,11 @@ pub place-past : (z a : ℕ) → 2 ≤ z → kindPlace z a ≡ nowhere
 place-past z a h = rw (ne-eqb z 0 (λ e. omega arith), ne-eqb z 1 (λ e. omega arith))
 
 -- every place is among the starts and stops, or the one that nothing asks for
-pub place-in : (z a p : ℕ) → a < mostActs → Off startsAt 128 p → (p ≡ nowhere → ⊥) → p ≡ kindPlace z a → ⊥
+pub place-in : (z a p : ℕ) → a < mostActs → Off startsAt (2 * mostActs) p → (p ≡ nowhere → ⊥) → p ≡ kindPlace z a → ⊥
 place-in z a p h off ne q =
     cases (eqb z 0)
     (λ e. off a (omega arith) (rw e at q))
-    (λ e. let r = rw e at q in cases (eqb z 1) (λ f. let s = rw f at r in off (64 + a) (omega arith) (omega arith)) (λ f. ne (rw f at r)))
+    (λ e. let r = rw e at q in cases (eqb z 1) (λ f. let s = rw f at r in off (mostActs + a) (omega arith) (omega arith)) (λ f. ne (rw f at r)))
 
 -- so it is in the index
 pub place-low : (z a : ℕ) → a < mostActs → kindPlace z a < indexLength

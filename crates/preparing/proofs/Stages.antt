@@ -1,5 +1,5 @@
 -- What each filling leaves: as many numbers as before, every place as it was where it writes nothing, and else what it wrote there last.
-use Prim.Native.Nat.{ℕ, zero, suc, _+_, _≤_, _<_}
+use Prim.Native.Nat.{ℕ, zero, suc, _+_, _*_, _≤_, _<_}
 use mathlib.Core.List.{List}
 use mathlib.Core.Path.{_≡_, refl, ap, _∙_}
 use native.Mathlib.Omega.{arith}
@@ -9,7 +9,7 @@ use Rattle.text.proofs.Picks.{order}
 use Rattle.model.specs.Limits.{mostCodels}
 use Rattle.model.specs.Tables.{Table}
 use Rattle.prepared.specs.Prepared.{safeAt, pairsFromAt, pairsEndAt}
-use Rattle.preparing.specs.Filling.{filled, ended, kindPlace, kindsNoted, pairNoted, pairsNoted}
+use Rattle.preparing.specs.Filling.{filled, counted, ended, kindPlace, kindsNoted, pairNoted, pairsNoted}
 
 -- what every step from j up to n leaves as it was
 still : {A : Type 0} (f : ℕ → A) (j n : ℕ) → j ≤ n → ((i : ℕ) → j ≤ i → i < n → f (suc i) ≡ f i) → f n ≡ f j
@@ -34,6 +34,26 @@ module _ (s : ℕ → List ℕ) (to what : ℕ → ℕ) (step : (i : ℕ) → s 
 -- place p is none of the n from a place on
 abbrev pub Off : ℕ → ℕ → ℕ → Type 0
 Off at n p = (k : ℕ) → k < n → p ≡ at + k → ⊥
+
+-- the counts of the kinds
+module _ (of : ℕ → ℕ) (l : List ℕ) where
+  pub counted-length : (n : ℕ) → length (counted of l n) ≡ length l
+  unfolding counted
+  counted-length = step-length (counted of l) (λ k. k) of (λ k. refl)
+
+  pub counted-off : (n p : ℕ) → n ≤ p → getD (counted of l n) p 0 ≡ getD l p 0
+  unfolding counted
+  counted-off n p h = step-off (counted of l) (λ k. k) of (λ k. refl) 0 n p (omega arith) (λ k a b e. omega arith)
+
+  pub counted-at : (n k : ℕ) → k < n → k < length l → getD (counted of l n) k 0 ≡ of k
+  unfolding counted
+  counted-at n k h room = step-last (counted of l) (λ j. j) of (λ j. refl) k n h room (λ j a b e. omega arith)
+
+-- counts that agree
+pub counted-same : (f g : ℕ → ℕ) (l : List ℕ) (n : ℕ) → ((k : ℕ) → k < n → f k ≡ g k) → counted f l n ≡ counted g l n
+unfolding counted
+counted-same f g l zero h = refl
+counted-same f g l (suc n) h = rw (counted-same f g l n (λ k b. h k (omega arith)), h n (omega arith))
 
 -- numbers made v
 module _ (l : List ℕ) (at v : ℕ) where
@@ -90,11 +110,11 @@ pub pair-off : (m lo hi p : ℕ) (l : List ℕ) → (p ≡ safeAt + hi → ⊥) 
 pair-off m lo hi p l u v w x = simp getD-set-other
 
 -- so what is no codel's place stays
-pub pairs-off : (K : Table) (l : List ℕ) (n p : ℕ) → Few K n → Off safeAt 256 p → Off pairsFromAt 512 p → getD (pairsNoted K l n) p 0 ≡ getD l p 0
+pub pairs-off : (K : Table) (l : List ℕ) (n p : ℕ) → Few K n → Off safeAt mostCodels p → Off pairsFromAt (2 * mostCodels) p → getD (pairsNoted K l n) p 0 ≡ getD l p 0
 unfolding pairsNoted
 pairs-off K l n p few safe pair =
     still (λ i. getD (pairsNoted K l i) p 0) 0 n (omega arith) (λ i a b.
     let lo = K .mutex i .lo in
     let hi = K .mutex i .hi in
     let f = few i b in
-    pair-off i lo hi p (pairsNoted K l i) (safe hi (f .1)) (safe lo (f .0)) (λ e. pair (256 + lo) (omega (arith, f .0)) (omega arith)) (pair lo (omega (arith, f .0))))
+    pair-off i lo hi p (pairsNoted K l i) (safe hi (f .1)) (safe lo (f .0)) (λ e. pair (mostCodels + lo) (omega (arith, f .0)) (omega arith)) (pair lo (omega (arith, f .0))))

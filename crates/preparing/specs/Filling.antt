@@ -1,25 +1,34 @@
 -- The index of a table, filled row by row.
 use Prim.Native.Nat.{ℕ, zero, suc, _+_}
-use mathlib.Core.List.{List}
+use mathlib.Core.List.{List, [], _∷_}
 use mathlib.Core.Bool.{true}
 use mathlib.Core.Path.{_≡_}
 use lib.ListN.{length, getD, set, replicate}
 use lib.Dec.{eqb}
 use Rattle.text.specs.Parts.{pick}
+use Rattle.row.specs.Kinds.{storedKinds}
 use Rattle.model.specs.Limits.{mostActs, mostCodels}
 use Rattle.model.specs.Tables.{Table}
 use Rattle.model.specs.Rows.{wellformed}
 use Rattle.table.specs.Tables.{slots, made, tableOf, Counted}
-use Rattle.prepared.specs.Prepared.{safeAt, edgesAt, pairsFromAt, pairsEndAt, startsAt, stopsAt, actsAt, indexLength, noStop}
+use Rattle.prepared.specs.Prepared.{nowhere, safeAt, edgesAt, pairsFromAt, pairsEndAt, startsAt, stopsAt, actsAt, indexLength, noStop}
 
 -- n numbers from a place on made v
 unfoldable pub filled : List ℕ → ℕ → ℕ → ℕ → List ℕ
 filled l at v zero = l
 filled l at v (suc n) = set (filled l at v n) (at + n) v
 
--- the counts in front
+-- the counts of the first n kinds in front
+unfoldable pub counted : (ℕ → ℕ) → List ℕ → ℕ → List ℕ
+counted of l zero = l
+counted of l (suc k) = set (counted of l k) k (of k)
+
+-- how many rows of a kind there are
+unfoldable pub countIn : Table → ℕ → ℕ
+countIn K k = getD (K .ntasks ∷ K .nacts ∷ K .ncodels ∷ K .nedges ∷ K .nmutex ∷ []) k 0
+
 abbrev pub withCounts : Table → List ℕ → List ℕ
-withCounts K l = set (set (set (set (set l 0 (K .ntasks)) 1 (K .nacts)) 2 (K .ncodels)) 3 (K .nedges)) 4 (K .nmutex)
+withCounts K l = counted (countIn K) l storedKinds
 
 -- the first n rows of a kind noted where the row that each belongs to has its end: the last of them wins
 unfoldable pub ended : (ℕ → ℕ) → ℕ → List ℕ → ℕ → List ℕ
@@ -27,9 +36,6 @@ ended of at l zero = l
 ended of at l (suc n) = set (ended of at l n) (at + of n) (n + 1)
 
 -- where a codel is noted: as its activity's start or stop, or at a place that nothing asks for
-abbrev pub nowhere : ℕ
-nowhere = 7
-
 abbrev pub kindPlace : ℕ → ℕ → ℕ
 kindPlace z a = pick (eqb z 0) (startsAt + a) (pick (eqb z 1) (stopsAt + a) nowhere)
 

@@ -1,19 +1,17 @@
 // Fills the index of an accepted table.
 ghost use mathlib.Core.Path.{_≡_};
-ghost use Prim.Native.Nat.{ℕ, _+_, _*_, _≤_, _<_};
-ghost use lib.ListN.{length, getD, set};
+ghost use Prim.Native.Nat.{ℕ, _+_, _≤_, _<_};
+ghost use lib.ListN.{length, getD};
 ghost use lib.Dec.{eqb};
 ghost use Rattle.text.specs.Parts.{pick};
 ghost use Rattle.model.specs.Limits.{mostActs, mostCodels, mostEdges, mostMutexes};
+ghost use Rattle.row.specs.Kinds.{storedKinds};
 ghost use Rattle.table.specs.Tables.{tableOf, made, Counted};
 ghost use Rattle.table.specs.Checks.{Passes};
-ghost use Rattle.prepared.specs.Prepared.{indexLength, Prepared, tableIn};
-ghost use Rattle.preparing.specs.Filling.{filled, ended, kindPlace, kindsNoted, pairNoted, pairsNoted, indexOf, Laid};
+ghost use Rattle.prepared.specs.Prepared.{indexLength, numberPlace, numberIn, Prepared, tableIn};
+ghost use Rattle.preparing.specs.Filling.{filled, counted, ended, kindPlace, kindsNoted, pairNoted, pairsNoted, indexOf, Laid};
 use prepared::INDEX;
 use table::Table;
-
-// Where a codel that is neither start nor stop is noted.
-const NOWHERE: usize = 7;
 
 // Makes n numbers from a place on v.
 fn fill(index: &mut [u32], at: usize, v: u32, n: usize)
@@ -29,12 +27,12 @@ fn fill(index: &mut [u32], at: usize, v: u32, n: usize)
 
 // Notes n rows, the first number of each being the row that it belongs to, where that one has its end.
 fn note_ends(rows: &[u32], from: usize, n: usize, index: &mut [u32], at: usize)
-    requires { ⌜ (n ≤ mostEdges) × ((e : ℕ) → e < n → (from + 3 * e < length (now rows)) × (at + getD (now rows) (from + 3 * e) 0 < length (now index))) ⌝ }
-    ensures { λ r. ⌜ now (index .exit) ≡ ended (λ e. getD (now (rows .entry)) (from + 3 * e) 0) at (now (index .entry)) n ⌝ }
+    requires { ⌜ (n ≤ mostEdges) × ((e : ℕ) → e < n → (numberPlace from e 0 < length (now rows)) × (at + numberIn (now rows) from e 0 < length (now index))) ⌝ }
+    ensures { λ r. ⌜ now (index .exit) ≡ ended (λ e. numberIn (now (rows .entry)) from e 0) at (now (index .entry)) n ⌝ }
 {
     let mut e = 0;
     while e < n {
-        let i = prepared::size(rows[from + 3 * e]);
+        let i = prepared::size(prepared::number(rows, from, e, 0));
         e += 1;
         index[at + i] = e as u32;
     }
@@ -51,18 +49,18 @@ fn kind_place(kind: u32, a: usize) -> usize
     if kind == 1 {
         return prepared::STOPS + a;
     }
-    NOWHERE
+    prepared::NOWHERE
 }
 
 // Notes each activity's start and stop.
-fn note_kinds(rows: &[u32], counts: [usize; 5], index: &mut [u32])
+fn note_kinds(rows: &[u32], counts: [usize; row::STORED], index: &mut [u32])
     requires { ⌜ Laid counts (now rows) × (length (now index) ≡ indexLength) ⌝ }
     ensures { λ r. ⌜ now (index .exit) ≡ kindsNoted (tableOf (made counts (now (rows .entry)))) (now (index .entry)) (tableOf (made counts (now (rows .entry))) .ncodels) ⌝ }
 {
     let mut c = 0;
     while c < counts[2] {
-        let a = prepared::size(rows[prepared::CODEL_ROWS + 3 * c]);
-        let p = kind_place(rows[prepared::CODEL_ROWS + 3 * c + 1], a);
+        let a = prepared::size(prepared::number(rows, prepared::CODEL_ROWS, c, 0));
+        let p = kind_place(prepared::number(rows, prepared::CODEL_ROWS, c, 1), a);
         index[p] = c as u32;
         c += 1;
     }
@@ -96,29 +94,29 @@ fn note_pair(index: &mut [u32], m: usize, lo: usize, hi: usize)
 }
 
 // Notes each mutex row.
-fn note_pairs(rows: &[u32], counts: [usize; 5], index: &mut [u32])
+fn note_pairs(rows: &[u32], counts: [usize; row::STORED], index: &mut [u32])
     requires { ⌜ Laid counts (now rows) × (length (now index) ≡ indexLength) ⌝ }
     ensures { λ r. ⌜ now (index .exit) ≡ pairsNoted (tableOf (made counts (now (rows .entry)))) (now (index .entry)) (tableOf (made counts (now (rows .entry))) .nmutex) ⌝ }
 {
     let mut m = 0;
     while m < counts[4] {
-        let lo = prepared::size(rows[prepared::MUTEX_ROWS + 3 * m]);
-        let hi = prepared::size(rows[prepared::MUTEX_ROWS + 3 * m + 1]);
+        let lo = prepared::size(prepared::number(rows, prepared::MUTEX_ROWS, m, 0));
+        let hi = prepared::size(prepared::number(rows, prepared::MUTEX_ROWS, m, 1));
         note_pair(index, m, lo, hi);
         m += 1;
     }
 }
 
 // The counts in front of the index.
-fn note_counts(counts: [usize; 5], index: &mut [u32])
+fn note_counts(counts: [usize; row::STORED], index: &mut [u32])
     requires { ⌜ Counted counts × (length (now index) ≡ indexLength) ⌝ }
-    ensures { λ r. ⌜ now (index .exit) ≡ set (set (set (set (set (now (index .entry)) 0 (getD counts 0 0)) 1 (getD counts 1 0)) 2 (getD counts 2 0)) 3 (getD counts 3 0)) 4 (getD counts 4 0) ⌝ }
+    ensures { λ r. ⌜ now (index .exit) ≡ counted (λ k. getD counts k 0) (now (index .entry)) storedKinds ⌝ }
 {
-    index[0] = counts[0] as u32;
-    index[1] = counts[1] as u32;
-    index[2] = counts[2] as u32;
-    index[3] = counts[3] as u32;
-    index[4] = counts[4] as u32;
+    let mut k = 0;
+    while k < row::STORED {
+        index[k] = counts[k] as u32;
+        k += 1;
+    }
 }
 
 // The index of an accepted table.

@@ -3,14 +3,17 @@ ghost use mathlib.Core.Path.{_≡_};
 ghost use mathlib.Core.Bool.{not};
 ghost use Prim.Native.Nat.{max, _≤_};
 ghost use lib.Dec.{leb};
-ghost use Rattle.model.specs.Tests.{_and_, _or_};
+ghost use Rattle.model.specs.Tests.{_and_, _or_, _implies_};
 ghost use Rattle.model.specs.Limits.{mostTicks, ceiling};
 ghost use Rattle.model.specs.Tables.{isEther};
-ghost use Rattle.model.specs.States.{heldBy, byManager};
+ghost use Rattle.model.specs.States.{noTask, noAct, fresh, heldBy, byManager};
+ghost use Rattle.model.specs.Records.{withHolder, withPlace, withExecuting, withClock, inLists};
 ghost use Rattle.model.specs.Rules.{rested, held, signalled, managed, outOfR, begun, closed, aged};
+ghost use Rattle.model.specs.declared.Place.the-variants.{Codel};
 use model::Act;
 use model::Holder;
 use model::Place;
+use model::State;
 use model::Task;
 
 // Both of the two.
@@ -33,6 +36,16 @@ pub fn either(a: bool, b: bool) -> bool
     b
 }
 
+// The second, where the first holds.
+pub fn implied(a: bool, b: bool) -> bool
+    ensures { λ r. ⌜ r ≡ a implies b ⌝ }
+{
+    if a {
+        return b;
+    }
+    true
+}
+
 // The larger of two numbers.
 pub fn larger(a: u64, b: u64) -> u64
     ensures { λ r. ⌜ r ≡ max a b ⌝ }
@@ -41,6 +54,16 @@ pub fn larger(a: u64, b: u64) -> u64
         return b;
     }
     a
+}
+
+// Is a place ether?
+pub fn is_ether(p: Place) -> bool
+    ensures { λ r. ⌜ r ≡ isEther p ⌝ }
+{
+    match p {
+        Place::Ether => true,
+        Place::Codel(_) => false,
+    }
 }
 
 // Does the manager hold?
@@ -102,12 +125,55 @@ fn place_anew(p: Place) -> Place
     }
 }
 
-// A task's record made anew, field by field: a copy would also carry the bytes that lie between the fields.
-pub fn task_anew(x: Task) -> Task
-    ensures { λ r. ⌜ r ≡ x ⌝ }
+// A task's record as it is in the fresh state.
+fn fresh_task() -> Task
+    ensures { λ r. ⌜ r ≡ noTask ⌝ }
 {
-    let g = x.holder;
-    let h = holder_anew(g);
+    Task {
+        timer: 0,
+        signal: false,
+        managing: false,
+        holder: Holder::Manager,
+        cycle: 0,
+        opened: 0,
+        missed: 0,
+        longest: 0,
+    }
+}
+
+// An activity's record as it is in the fresh state.
+fn fresh_act() -> Act
+    ensures { λ r. ⌜ r ≡ noAct ⌝ }
+{
+    Act {
+        place: Place::Ether,
+        executing: false,
+        clock: 0,
+        run: false,
+        halt: false,
+    }
+}
+
+// "Fresh: everything 0 or empty, managers waiting and holding, activities at ether."
+pub fn fresh_state() -> State
+    ensures { λ r. ⌜ r ≡ fresh ⌝ }
+{
+    let x = fresh_task();
+    let y = fresh_act();
+    let tasks = [x; model::MOST_TASKS];
+    let acts = [y; model::MOST_ACTS];
+    State {
+        date: 0,
+        tasks: tasks,
+        acts: acts,
+    }
+}
+
+// A task's record with another holder, field by field: a holder can't be assigned, and a copy would also carry the bytes that lie between
+// the fields.
+fn by_holder(x: Task, h: Holder) -> Task
+    ensures { λ r. ⌜ r ≡ withHolder h x ⌝ }
+{
     Task {
         timer: x.timer,
         signal: x.signal,
@@ -120,12 +186,10 @@ pub fn task_anew(x: Task) -> Task
     }
 }
 
-// The same for an activity's record.
-pub fn act_anew(y: Act) -> Act
-    ensures { λ r. ⌜ r ≡ y ⌝ }
+// The same of an activity's record, with another place.
+fn at_place(y: Act, p: Place) -> Act
+    ensures { λ r. ⌜ r ≡ withPlace p y ⌝ }
 {
-    let q = y.place;
-    let p = place_anew(q);
     Act {
         place: p,
         executing: y.executing,
@@ -135,34 +199,56 @@ pub fn act_anew(y: Act) -> Act
     }
 }
 
+// A task's record made anew, without what lies between its fields.
+pub fn task_anew(x: Task) -> Task
+    ensures { λ r. ⌜ r ≡ x ⌝ }
+{
+    let h = x.holder;
+    by_holder(x, holder_anew(h))
+}
+
+// The same for an activity's record.
+pub fn act_anew(y: Act) -> Act
+    ensures { λ r. ⌜ r ≡ y ⌝ }
+{
+    let p = y.place;
+    at_place(y, place_anew(p))
+}
+
 // A task's record with another holder, its longest at least k.
 pub fn with_holder(x: Task, h: Holder, k: u64) -> Task
     ensures { λ r. ⌜ r ≡ held h k x ⌝ }
 {
-    let l = larger(x.longest, k);
-    Task {
-        timer: x.timer,
-        signal: x.signal,
-        managing: x.managing,
-        holder: h,
-        cycle: x.cycle,
-        opened: x.opened,
-        missed: x.missed,
-        longest: l,
-    }
+    let mut u = by_holder(x, h);
+    u.longest = larger(x.longest, k);
+    u
 }
 
 // "Give back": an activity's record at a place.
 pub fn at_rest(p: Place) -> Act
     ensures { λ r. ⌜ r ≡ rested p ⌝ }
 {
-    Act {
-        place: p,
-        executing: false,
-        clock: 0,
-        run: false,
-        halt: false,
-    }
+    at_place(fresh_act(), p)
+}
+
+// "Enter c": an activity's record at a codel, executing if that is thread safe.
+pub fn entered(y: Act, c: usize, safe: bool) -> Act
+    ensures { λ r. ⌜ r ≡ withPlace (Codel c) (withExecuting safe (withClock 0 y)) ⌝ }
+{
+    let mut v = at_place(y, Place::Codel(c));
+    v.executing = safe;
+    v.clock = 0;
+    v
+}
+
+// An activity's record with its places in N and R.
+pub fn in_lists(y: Act, run: bool, halt: bool) -> Act
+    ensures { λ r. ⌜ r ≡ inLists run halt y ⌝ }
+{
+    let mut v = y;
+    v.run = run;
+    v.halt = halt;
+    act_anew(v)
 }
 
 // "Timer 0, signal set; if it was set already while managing, missed grows by 1."

@@ -12,7 +12,7 @@ use borrow.Author.Tests.{le-leb}
 use Rattle.text.specs.Number.{widthOf, digits}
 use Rattle.text.specs.Put.{Put}
 use Rattle.text.proofs.Numbers.{length-digits, width-within}
-use Rattle.text.proofs.Turns.{put-none, put-room}
+use Rattle.text.proofs.Laying.{put-none, put-room}
 use Rattle.text.proofs.Puts.{put-fits, laid-length, sets-append}
 use Rattle.report.specs.Rows.{numbersText, lineText, keptWord, headText, cycleNumbers, cycleText}
 use Rattle.report.specs.declared.Cycle.{Cycle}

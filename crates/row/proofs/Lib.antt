@@ -1,4 +1,6 @@
 pub mod Tables
 pub mod Fields
 pub mod Rows
-pub mod Turns
+pub mod Values
+pub mod Reading
+pub mod Writing

@@ -5,8 +5,8 @@ use mathlib.Core.List.{List, [], _∷_, _++_, append-nil, append-assoc}
 use mathlib.Core.Bool.{true, false}
 use native.Mathlib.Omega.{arith}
 use lib.ListN.{length, length-append}
-use lib.Dec.{ltb, eqb}
-use borrow.Author.Tests.{lt-ltb, ltb-true, eqb-true}
+use lib.Dec.{leb, eqb}
+use borrow.Author.Tests.{le-leb, leb-true, eqb-true}
 use Rattle.text.specs.Parts.{splitOn, joinOn, free, allFree}
 use Rattle.text.specs.Words.{wordIn, wordAt}
 use Rattle.text.specs.Fields.{etherValue}
@@ -18,7 +18,7 @@ use Rattle.text.proofs.Digits.{free-append}
 use Rattle.text.proofs.Picks.{cases, picked, false-true}
 use Rattle.text.proofs.Parts.{split-join, split-cut, join-split}
 use Rattle.text.proofs.Words.{word-read, word-written}
-use Rattle.row.specs.Kinds.{noField, wordsIn, kinds, wordOf, formOf, kindIn}
+use Rattle.row.specs.Kinds.{noField, wordsIn, kinds, endKind, wordOf, formOf, kindIn}
 use Rattle.row.specs.Row.{readForm, onNumber, withField, atEnd, fieldsIn, onWord, rowIn, readRow, fieldText, rowParts, rowLine, rowText, tabbed, formOk, rowOk}
 use Rattle.row.specs.declared.Row.{Row}
 use Rattle.row.specs.declared.Line.{Line}
@@ -37,20 +37,20 @@ word-there : (k : ℕ) → wordAt rowWords k ≡ wordOf k
 unfolding wordAt wordOf
 word-there k = words-at kinds k
 
-kind-reads : (k : ℕ) → k < 6 → kindIn (wordOf k) ≡ word.Is k
+kind-reads : (k : ℕ) → k ≤ endKind → kindIn (wordOf k) ≡ word.Is k
 unfolding kindIn wordIn
-kind-reads k h = rw (← word-there k) (word-written rowWords k refl h)
+kind-reads k h = rw (← word-there k) (word-written rowWords k refl (omega arith))
 
-kind-read : (w : List ℕ) (k : ℕ) → kindIn w ≡ word.Is k → (wordOf k ≡ w) × (k < 6)
+kind-read : (w : List ℕ) (k : ℕ) → kindIn w ≡ word.Is k → (wordOf k ≡ w) × (k ≤ endKind)
 unfolding kindIn wordIn
-kind-read w k u = rw (← word-there k) (word-read rowWords w k u)
+kind-read w k u = let r = word-read rowWords w k u in rw (← word-there k) (r .0, omega arith)
 
 kind-free : (c k : ℕ) → c < 48 → free c (wordOf k) ≡ true
 kind-free c k h = free-high c (wordOf k) h (word-high k)
 
 -- what a row keeps to that a line can say
 pub record Bounds (r : Row) : Type 0 where
-  pub kind : r .kind < 6
+  pub kind : r .kind ≤ endKind
   pub first : formOk (formOf (r .kind) 0) (r .a) ≡ true
   pub second : formOk (formOf (r .kind) 1) (r .b) ≡ true
   pub third : formOk (formOf (r .kind) 2) (r .c) ≡ true
@@ -62,11 +62,11 @@ pub record Bounds (r : Row) : Type 0 where
 pub row-bounds : (r : Row) → rowOk r ≡ true → Bounds r
 unfolding rowOk
 row-bounds r h =
-    let k = picked (ltb (r .kind) 6) false-true h in
+    let k = picked (leb (r .kind) endKind) false-true h in
     let x = picked (formOk (formOf (r .kind) 0) (r .a)) false-true (k .1) in
     let y = picked (formOk (formOf (r .kind) 1) (r .b)) false-true (x .1) in
     record {
-      kind = ltb-true _ _ (k .0);
+      kind = leb-true _ _ (k .0);
       first = x .0;
       second = y .0;
       third = y .1;
@@ -166,7 +166,7 @@ row-read s r h = line (splitOn 9 s) refl h
         let x : Row = record { kind = k; a = a .value; b = b .value; c = c .value } in
         let e = last (c .rest) x (c .then) in
         let p : rowParts x ≡ splitOn 9 s = parts-are x ∙ cc (t .0, a .cut, b .cut, c .cut, e .0) in
-        rw (← e .1) (ap (joinOn 9) p ∙ join-split 9 s, rw (lt-ltb k 6 (t .1), a .ok, b .ok, c .ok))
+        rw (← e .1) (ap (joinOn 9) p ∙ join-split 9 s, rw (le-leb k endKind (t .1), a .ok, b .ok, c .ok))
 
     line : (ps : List (List ℕ)) → splitOn 9 s ≡ ps → rowIn ps ≡ Is r → (rowLine r ≡ s) × (rowOk r ≡ true)
     line [] q h = absurd (bad-is h)

@@ -6,12 +6,12 @@ use mathlib.Core.Bool.{Bool, true, false}
 use native.Mathlib.Omega.{arith}
 use lib.ListN.{length, getD, take, drop, replicate, length-append, List·getD-append, List·getD-eq-default}
 use lib.Seq.{take-append-seam}
-use lib.Dec.{leb}
-use borrow.Author.Tests.{le-leb, leb-true, ne-eqb}
+use lib.Dec.{leb, ltb}
+use borrow.Author.Tests.{le-leb, leb-true, ltb-true, ne-eqb}
 use Rattle.text.specs.Parts.{pick, splitOn, free}
 use Rattle.text.specs.Words.{wordAt}
 use Rattle.text.proofs.Picks.{picked, false-true}
-use Rattle.row.specs.Kinds.{RowKind, none, kinds, endKind, kindAt, laidOut, wordOf, fieldsOf, mostOf, formOf, wordsIn}
+use Rattle.row.specs.Kinds.{RowKind, none, kinds, endKind, mostFields, kindAt, laidOut, wordOf, fieldsOf, mostOf, formOf, wordsIn}
 use Rattle.row.specs.declared.Kind.{Kind}
 
 -- the test holds of every entry
@@ -29,15 +29,15 @@ entry test (x ∷ xs) d (suc k) past h = entry test xs d k past (picked (test x)
 ofKind : (test : RowKind → Bool) (k : ℕ) → every test kinds ≡ true → test none ≡ true → test (kindAt k) ≡ true
 ofKind test k h past = entry test kinds none k past h
 
--- no kind has more rows than 512
-pub most-within : (k : ℕ) → mostOf k ≤ 512
+-- how many rows of a kind there may be is a number of 32 bits
+pub most-within : (k : ℕ) → mostOf k < 4294967296
 unfolding mostOf
-most-within k = leb-true _ _ (ofKind (λ x. leb (x .most) 512) k refl refl)
+most-within k = ltb-true _ _ (ofKind (λ x. ltb (x .most) 4294967296) k refl refl)
 
--- no kind has more fields than 3
-fields-within : (k : ℕ) → fieldsOf k ≤ 3
+-- no kind has more fields
+fields-within : (k : ℕ) → fieldsOf k ≤ mostFields
 unfolding fieldsOf
-fields-within k = leb-true _ _ (ofKind (λ x. leb (length (x .fields)) 3) k refl refl)
+fields-within k = leb-true _ _ (ofKind (λ x. leb (length (x .fields)) mostFields) k refl refl)
 
 -- no word has more letters than 5
 pub word-width : (k : ℕ) → length (wordOf k) ≤ 5
@@ -89,7 +89,7 @@ module _ (x : Kind) (k : ℕ) (e : x ≡ laidOut (kindAt k)) where
   entry-past j h = sym (List·getD-eq-default (kindAt k .fields) 0 (rw e at h))
 
   module _ (j : ℕ) (h : j < x .2) where
-    pub entry-field : j < 3
+    pub entry-field : j < mostFields
     unfolding laidOut fieldsOf
     entry-field = let l : j < fieldsOf k = rw e at h in omega (arith, fields-within k)
 

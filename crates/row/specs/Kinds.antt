@@ -43,8 +43,16 @@ kinds =
     ∷ row (101 ∷ 110 ∷ 100 ∷ []) (aNumber ∷ []) 1
     ∷ []
 
+-- how many kinds of rows a table stores: those before `end`
+abbrev pub storedKinds : ℕ
+storedKinds = 5
+
 abbrev pub endKind : ℕ
-endKind = 5
+endKind = storedKinds
+
+-- how many fields a row has at most
+abbrev pub mostFields : ℕ
+mostFields = 3
 
 -- past the last kind there is none
 abbrev pub none : RowKind
@@ -53,14 +61,14 @@ none = row [] [] 0
 abbrev pub kindAt : ℕ → RowKind
 kindAt k = getD kinds k none
 
--- as the code holds it: the word filled up with spaces to five letters, its letters and its fields counted, the fields filled up to three
+-- as the code holds it: the word filled up with spaces to five letters, its letters and its fields counted, the fields filled up
 unfoldable pub laidOut : RowKind → Kind
 laidOut x = (
   x .word ++ replicate (5 - length (x .word)) 32,
   length (x .word),
   length (x .fields),
   x .most,
-  x .fields ++ replicate (3 - length (x .fields)) noField,
+  x .fields ++ replicate (mostFields - length (x .fields)) noField,
 )
 
 unfoldable pub wordOf : ℕ → List ℕ

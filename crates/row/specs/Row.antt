@@ -13,7 +13,7 @@ use Rattle.text.specs.declared.Word.{Word}
 use Rattle.text.specs.declared.Word.the-variants as word
 use Rattle.text.specs.declared.Got.{Got}
 use Rattle.text.specs.declared.Got.the-variants as got
-use Rattle.row.specs.Kinds.{kindWords, modeWords, noField, aNumber, aKind, aMode, wordOf, formOf, kindIn}
+use Rattle.row.specs.Kinds.{kindWords, modeWords, noField, aNumber, aKind, aMode, endKind, wordOf, formOf, kindIn}
 use Rattle.row.specs.declared.Row.{Row}
 use Rattle.row.specs.declared.Line.{Line}
 use Rattle.row.specs.declared.Line.the-variants.{Is, Bad}
@@ -105,6 +105,6 @@ formOk form v =
 -- a row that a line can say
 unfoldable pub rowOk : Row → Bool
 rowOk r =
-    pick (ltb (r .kind) 6)
+    pick (leb (r .kind) endKind)
     (pick (formOk (formOf (r .kind) 0) (r .a))
     (pick (formOk (formOf (r .kind) 1) (r .b)) (formOk (formOf (r .kind) 2) (r .c)) false) false) false

@@ -15,8 +15,14 @@ use text::Got;
 use text::Number;
 use text::Word;
 
+// How many kinds of rows a table stores: those before `end`.
+pub const STORED: usize = 5;
+
 // The kind of an `end` row: where the page's row words end.
-pub const END: usize = 5;
+pub const END: usize = STORED;
+
+// How many fields a row has at most; so many numbers are stored of each row.
+pub const FIELDS: usize = 3;
 
 // What a field says: nothing, a number, a codel's kind, an edge's mode, a codel or `ether`.
 pub const NO_FIELD: usize = 0;
@@ -30,11 +36,11 @@ pub const A_MODE: usize = 3;
 const A_TARGET: usize = 4;
 
 // A row of the page's table: its word, filled up to five with spaces, and its letters; how many fields; the most rows; what each field says,
-// filled up to three with 0.
-struct Kind([u8; 5], usize, usize, usize, [usize; 3]);
+// filled up with 0.
+struct Kind([u8; 5], usize, usize, usize, [usize; FIELDS]);
 
 // The page's table of rows; a row's kind is its place.
-const KINDS: [Kind; 6] = [
+const KINDS: [Kind; STORED + 1] = [
     Kind(*b"task ", 4, 2, MOST_TASKS, [A_NUMBER, A_NUMBER, 0]),
     Kind(*b"act  ", 3, 1, MOST_ACTS, [A_NUMBER, 0, 0]),
     Kind(*b"codel", 5, 3, MOST_CODELS, [A_NUMBER, A_KIND, A_NUMBER]),

@@ -5,8 +5,9 @@ use mathlib.Core.Path.{_≡_, refl, sym, ap, _∙_}
 use native.Mathlib.Omega.{arith}
 use types.Run.{OneOf, miss}
 use denote.Enum.Declared.{tagOf}
-use Prim.Native.Nat.{ℕ, _<_}
+use Prim.Native.Nat.{ℕ, _≤_, _<_}
 use lib.Dec.{T, ltb, ltb→lt}
+use borrow.Author.Tests.{lt-ltb, le-ltb}
 use Rattle.model.specs.Tests.{_and_, need}
 use Rattle.model.specs.Tables.{Table, isStop, known}
 use Rattle.model.specs.Rules.{stopOf}
@@ -21,7 +22,7 @@ use Rattle.model.proofs.ActStep.{the-type}
 use Rattle.model.proofs.Tests.{and-l, and-r, need-of}
 use Rattle.model.proofs.Asked.{known-codel}
 use Rattle.model.proofs.StepsKeep.{first-at}
-use Rattle.rules.specs.Local.{taskLocal, local, eaLocal, naming, taskIn}
+use Rattle.rules.specs.Local.{toldTask, taskLocal, local, eaLocal, naming, taskTold, rowIn, taskIn}
 use Rattle.rules.specs.declared.TaskTold.{TaskTold}
 use Rattle.rules.specs.declared.Told.{Told}
 
@@ -64,6 +65,26 @@ module _ (K : Table) (a : ℕ) (k z : ActStep) (e : k ≡ z) where
 
 pub task-local-is : (K : Table) (t : ℕ) (k z : TaskStep) (b : Bool) (u : Task) (r : TaskTold) → k ≡ z → r ≡ taskLocal K t z b u → r ≡ taskLocal K t k b u
 task-local-is K t k z b u r e q = q ∙ ap (λ w. taskLocal K t w b u) (sym e)
+
+-- the row that a number reads
+module _ (i n : ℕ) where
+  pub row-own : i < n → i ≡ rowIn i n
+  row-own h = rw (lt-ltb i n h)
+
+  pub row-first : n ≤ i → 0 ≡ rowIn i n
+  row-first h = rw (le-ltb i n h)
+
+-- a task's step by whether there is its task
+module _ (K : Table) (t n : ℕ) (q : n ≡ K .ntasks) where
+  pub task-row : t < n → t < K .ntasks
+  task-row h = omega arith
+
+  module _ (k : TaskStep) (b : Bool) (x : Task) (r : TaskTold) where
+    pub task-missing : n ≤ t → r ≡ toldTask 12 x → r ≡ taskTold K t k b x
+    task-missing h e = e ∙ rw (le-ltb t (K .ntasks) (omega arith))
+
+    pub task-present : t < n → r ≡ taskLocal K t k b x → r ≡ taskTold K t k b x
+    task-present h e = e ∙ rw (lt-ltb t (K .ntasks) (omega arith))
 
 -- and of `ea` by its target
 module _ (K : Table) (a : ℕ) (p q : Place) (e : p ≡ q) where

@@ -1,7 +1,9 @@
--- What a step asks and does, told by the records of the one task and the one activity that it names; the rows that it names exist.
+-- What a step asks and does, told by the records of the one task and the one activity that it names; first whether it names rows that
+-- exist.
 use mathlib.Core.Bool.{Bool, true, false, not}
 use Prim.Native.Nat.{ℕ}
 use lib.Dec.{eqb, leb, ltb}
+use Rattle.text.specs.Parts.{pick}
 use Rattle.model.specs.Tests.{_and_, _or_, need}
 use Rattle.model.specs.Tables.{Table, isEther, known}
 use Rattle.model.specs.States.{actAt, byManager, heldBy, stands, clearAt}
@@ -92,6 +94,14 @@ naming K a (Ea Ether) = 11
 naming K a (Ea (Codel c)) = need (ltb a (K .nacts) and ltb c (K .ncodels)) 12 0
 naming K a Cx = need (ltb a (K .nacts)) 12 0
 naming K a (Fa p) = need (ltb a (K .nacts) and known K p) 12 0
+
+-- a task's step: 12 where there is no such task
+abbrev pub taskTold : Table → ℕ → TaskStep → Bool → Task → TaskTold
+taskTold K t k empty x = unless (ltb t (K .ntasks)) (toldTask 12 x) (taskLocal K t k empty x)
+
+-- the row of a state that the number i reads, of n: its own, or the first where there is none
+abbrev pub rowIn : ℕ → ℕ → ℕ
+rowIn i n = pick (ltb i n) i 0
 
 -- the task whose record a step of the activity a touches
 abbrev pub taskIn : Table → ℕ → ActStep → ℕ

@@ -9,7 +9,7 @@ ghost use Rattle.model.specs.States.{stands};
 ghost use Rattle.model.specs.Rules.{entered, again, eaAllowed, faAllowed};
 ghost use Rattle.model.specs.declared.Place.the-variants.{Codel};
 ghost use Rattle.prepared.specs.Prepared.{tableIn, Prepared};
-ghost use Rattle.rules.specs.Local.{toldTask, told, stLocal, fmLocal, taskLocal, lmLocal, iaLocal, eaLocal, cxLocal, faLocal, local, naming, taskIn};
+ghost use Rattle.rules.specs.Local.{toldTask, told, stLocal, fmLocal, taskTold, lmLocal, iaLocal, eaLocal, cxLocal, faLocal, local, naming, rowIn, taskIn};
 use model::Act;
 use model::ActStep;
 use model::Holder;
@@ -35,14 +35,7 @@ fn enter(rows: &[u32], index: &[u32], c: usize, y: Act) -> Act
     requires { ⌜ Prepared (now rows) (now index) × (c < tableIn (now rows) (now index) .ncodels) ⌝ }
     ensures { λ r. ⌜ r ≡ entered (tableIn (now (rows .entry)) (now (index .entry))) c y ⌝ }
 {
-    let e = prepared::is_safe(rows, index, c);
-    Act {
-        place: Place::Codel(c),
-        executing: e,
-        clock: 0,
-        run: y.run,
-        halt: y.halt,
-    }
+    records::entered(y, c, prepared::is_safe(rows, index, c))
 }
 
 // An activity that comes to hold enters its codel again, unless it is in R.
@@ -79,6 +72,16 @@ fn answer(n: u64, x: Task, y: Act) -> Told
     }
 }
 
+// The row of a state that a number reads: its own where it is below n, else the first. A step that names no row is refused, whatever was read.
+pub fn row_in(i: usize, n: usize) -> usize
+    ensures { λ r. ⌜ r ≡ rowIn i n ⌝ }
+{
+    if i < n {
+        return i;
+    }
+    0
+}
+
 fn do_st(rows: &[u32], index: &[u32], t: usize, x: Task) -> TaskTold
     requires { ⌜ Prepared (now rows) (now index) × (t < tableIn (now rows) (now index) .ntasks) × (x .missed ≤ ceiling) ⌝ }
     ensures { λ r. ⌜ r ≡ stLocal (tableIn (now (rows .entry)) (now (index .entry))) t x ⌝ }
@@ -107,7 +110,7 @@ fn do_fm(empty: bool, x: Task) -> TaskTold
     task_answer(0, u)
 }
 
-// `st` and `fm` on their task's record; empty is whether N and R are, for `fm`.
+// `st` and `fm` on their task's record: 12 where there is no such task; empty is whether N and R are, for `fm`.
 pub fn task_step(
     rows: &[u32],
     index: &[u32],
@@ -116,9 +119,12 @@ pub fn task_step(
     empty: bool,
     x: Task,
 ) -> TaskTold
-    requires { ⌜ Prepared (now rows) (now index) × (t < tableIn (now rows) (now index) .ntasks) × (x .missed ≤ ceiling) ⌝ }
-    ensures { λ r. ⌜ r ≡ taskLocal (tableIn (now (rows .entry)) (now (index .entry))) t k empty x ⌝ }
+    requires { ⌜ Prepared (now rows) (now index) × (x .missed ≤ ceiling) ⌝ }
+    ensures { λ r. ⌜ r ≡ taskTold (tableIn (now (rows .entry)) (now (index .entry))) t k empty x ⌝ }
 {
+    if prepared::tasks(rows, index) <= t {
+        return task_answer(12, x);
+    }
     match k {
         TaskStep::St => do_st(rows, index, t, x),
         TaskStep::Fm => do_fm(empty, x),

@@ -8,7 +8,7 @@ use Rattle.model.specs.Tests.{_and_, _or_, _implies_, each}
 use Rattle.model.specs.Limits.{mostTasks, mostActs}
 use Rattle.model.specs.Tables.{Table, isEther, known, safe}
 use Rattle.model.specs.States.{taskAt, actAt, heldBy, runs}
-use Rattle.model.specs.Sound.{atOwn, listedAtEther, atSafe, executesWhenSafe, clockOk, fine, fineAct, holderOk, apart, isFreshTask, isFreshAct, freshPast}
+use Rattle.model.specs.Sound.{atOwn, listedAtEther, atSafe, executesWhenSafe, clockOk, fineAct, holderOk, apart, isFreshTask, isFreshAct, freshPast}
 use Rattle.model.specs.declared.Task.{Task}
 use Rattle.model.specs.declared.Act.{Act}
 use Rattle.model.specs.declared.State.{State}
@@ -44,46 +44,42 @@ own-known K a p r e n = go p (true-T _ (yes-by r (atOwn K a p) e n))
     go Ether t = tt
     go (Codel c) t = and-l (ltb c (K .ncodels)) _ t
 
+-- "a holder at ether is in N or R"
+pub listed-by : (a : ℕ) (x : Task) (y : Act) (h i j b r : Bool) → h ≡ heldBy (x .holder) a → i ≡ isEther (y .place) → j ≡ (h and i) → b ≡ ((y .run) or (y .halt)) → r ≡ (j implies b) → r ≡ listedAtEther a x y
+listed-by a x y h i j b r t u v w z = rw (← t, ← u, ← v, ← w) z
+
 -- "a holder not in R at a thread-safe codel executes"
-module _ (K : Table) (h l : Bool) (p : Place) (e r : Bool) (q : r ≡ (h and not l)) where
-  safe-by : executesWhenSafe K h l p e ≡ (r and atSafe K p implies e)
-  safe-by = go r h (not l) (atSafe K p) q
+module _ (K : Table) (a : ℕ) (x : Task) (y : Act) (r : Bool) (q : r ≡ (heldBy (x .holder) a and not (y .halt))) where
+  safe-by : executesWhenSafe K a x y ≡ (r and atSafe K (y .place) implies (y .executing))
+  safe-by = go r (heldBy (x .holder) a) (not (y .halt)) (atSafe K (y .place)) q
     where
-      go : (r a b s : Bool) → r ≡ (a and b) → (a and b and s implies e) ≡ (r and s implies e)
+      go : (r a b s : Bool) → r ≡ (a and b) → (a and b and s implies (y .executing)) ≡ (r and s implies (y .executing))
       go r true b s i = rw i
       go r false b s i = rw i
 
-  pub safe-idle : not r ≡ true → true ≡ executesWhenSafe K h l p e
+  pub safe-idle : not r ≡ true → true ≡ executesWhenSafe K a x y
   safe-idle n = rw (safe-by, not-true r n)
 
   module _ (n : not r ≡ false) where
-    pub safe-ether : p ≡ Ether → true ≡ executesWhenSafe K h l p e
+    pub safe-ether : y .place ≡ Ether → true ≡ executesWhenSafe K a x y
     safe-ether f = rw (safe-by, not-false r n, f)
 
-    pub safe-codel : (c : ℕ) (s z : Bool) → p ≡ Codel c → s ≡ safe K c → z ≡ (s implies e) → z ≡ executesWhenSafe K h l p e
+    pub safe-codel : (c : ℕ) (s z : Bool) → y .place ≡ Codel c → s ≡ safe K c → z ≡ (s implies (y .executing)) → z ≡ executesWhenSafe K a x y
     safe-codel c s z f i w = rw (safe-by, not-false r n, f, ← i) w
 
 -- "an executing clock is at most the limit, every other clock is 0"
-module _ (K : Table) (p : Place) (e : Bool) (k : ℕ) where
-  pub clock-still : not e ≡ true → eqb k 0 ≡ clockOk K p e k
-  clock-still n = rw (not-true e n)
+module _ (K : Table) (y : Act) where
+  pub clock-still : not (y .executing) ≡ true → eqb (y .clock) 0 ≡ clockOk K y
+  clock-still n = rw (not-true (y .executing) n)
 
-  module _ (n : not e ≡ false) where
-    pub clock-ether : p ≡ Ether → false ≡ clockOk K p e k
-    clock-ether f = rw (not-false e n, f)
+  module _ (n : not (y .executing) ≡ false) where
+    pub clock-ether : y .place ≡ Ether → false ≡ clockOk K y
+    clock-ether f = rw (not-false (y .executing) n, f)
 
-    pub clock-codel : (c x : ℕ) → p ≡ Codel c → x ≡ K .limit c → leb k x ≡ clockOk K p e k
-    clock-codel c x f i = rw (not-false e n, f, i)
+    pub clock-codel : (c x : ℕ) → y .place ≡ Codel c → x ≡ K .limit c → leb (y .clock) x ≡ clockOk K y
+    clock-codel c x f i = rw (not-false (y .executing) n, f, i)
 
--- "a holder at ether is in N or R"
-pub listed-by : (h n l : Bool) (p : Place) (i j b r : Bool) → i ≡ isEther p → j ≡ (h and i) → b ≡ (n or l) → r ≡ (j implies b) → r ≡ listedAtEther h n l p
-listed-by h n l p i j b r u v w z = rw (← u, ← v, ← w) z
-
--- the sentences on an activity, by whether it holds
-pub fine-held : (K : Table) (a : ℕ) (x : Task) (y : Act) (h r : Bool) → h ≡ heldBy (x .holder) a → r ≡ fine K a (x .managing) h (y .run) (y .halt) (y .place) (y .executing) (y .clock) → r ≡ fineAct K a x y
-fine-held K a x y h r e q = rw (← e) q
-
--- and by its task's record
+-- the sentences on an activity, by its task
 module _ (K : Table) (s : State) (a t : ℕ) (r : Bool) (e : t ≡ K .task a) (q : r ≡ fineAct K a (taskAt s t) (actAt s a)) where
   pub act-fails : not r ≡ true → fineAct K a (taskAt s (K .task a)) (actAt s a) ≡ false
   act-fails n = rw (← e, ← q) (not-true r n)
@@ -122,4 +118,4 @@ module _ (K : Table) (s : State) (n : ℕ) (r : Bool) (e : n ≡ K .ntasks) (q :
   pub past-acts : (m : ℕ) (z : Bool) → not r ≡ false → m ≡ K .nacts → z ≡ each mostActs (λ a. leb m a implies isFreshAct (actAt s a)) → z ≡ freshPast K s
   past-acts m z f i w = rw (← e, ← q, not-false r f, ← i) w
 
-pub ruleset sentences = (holder-row, holder-none, own-row, own-none, own-known, safe-idle, safe-ether, safe-codel, clock-still, clock-ether, clock-codel, listed-by, run-still, run-ether, run-codel, past-fails, past-acts)
+pub ruleset sentences = (holder-row, holder-none, own-row, own-none, own-known, listed-by, safe-idle, safe-ether, safe-codel, clock-still, clock-ether, clock-codel, run-still, run-ether, run-codel, past-fails, past-acts)

@@ -4,9 +4,9 @@ ghost use Prim.Native.Nat.{_<_};
 ghost use lib.Dec.{T, leb};
 ghost use Rattle.model.specs.Tests.{_and_, _implies_, one, each};
 ghost use Rattle.model.specs.Limits.{mostTasks, mostActs};
-ghost use Rattle.model.specs.Tables.{isEther, known};
+ghost use Rattle.model.specs.Tables.{known};
 ghost use Rattle.model.specs.States.{taskAt, actAt, runs};
-ghost use Rattle.model.specs.Sound.{atOwn, mayRest, setsWhileManaging, restsUnlessRunning, listedAtEther, stillAtEther, executesWhenSafe, clockOk, fineAct, holderOk, waitingOk, countsOk, fineTask, apart, isFreshTask, isFreshAct, freshPast, sound};
+ghost use Rattle.model.specs.Sound.{atOwn, mayRest, setsWhileManaging, restsUnlessRunning, listedAtEther, stillAtEther, executesWhenSafe, clockOk, finePlace, fineAct, holderOk, waitingOk, countsOk, fineTask, apart, isFreshTask, isFreshAct, freshPast, sound};
 ghost use Rattle.prepared.specs.Prepared.{tableIn, Prepared};
 ghost use Rattle.soundness.specs.Marks.{pauseMarks};
 use model::Act;
@@ -14,24 +14,6 @@ use model::Holder;
 use model::Place;
 use model::State;
 use model::Task;
-
-fn implied(a: bool, b: bool) -> bool
-    ensures { λ r. ⌜ r ≡ a implies b ⌝ }
-{
-    if a {
-        return b;
-    }
-    true
-}
-
-fn is_ether(p: Place) -> bool
-    ensures { λ r. ⌜ r ≡ isEther p ⌝ }
-{
-    match p {
-        Place::Ether => true,
-        Place::Codel(_) => false,
-    }
-}
 
 // Marks the codels that a pause leads to.
 fn pause_marks(rows: &[u32], index: &[u32]) -> [u8; model::MOST_CODELS]
@@ -169,12 +151,27 @@ fn may_rest(rows: &[u32], index: &[u32], pauses: &[u8], p: Place) -> bool
     }
 }
 
-// "an activity that is not the holder is at ether or at the target of a pause, not executing; so is a holder in R"
-fn rests_unless_running(rows: &[u32], index: &[u32], pauses: &[u8], holds: bool, y: Act) -> bool
-    requires { ⌜ Prepared (now rows) (now index) × T (known (tableIn (now rows) (now index)) (y .place)) × (now pauses ≡ pauseMarks (tableIn (now rows) (now index)) (tableIn (now rows) (now index) .nedges)) ⌝ }
-    ensures { λ r. ⌜ r ≡ restsUnlessRunning (tableIn (now (rows .entry)) (now (index .entry))) holds (y .halt) (y .place) (y .executing) ⌝ }
+// "a waiting manager .. has N and R empty"
+fn sets_while_managing(x: Task, y: Act) -> bool
+    ensures { λ r. ⌜ r ≡ setsWhileManaging x y ⌝ }
 {
-    if records::both(holds, !y.halt) {
+    records::implied(records::either(y.run, y.halt), x.managing)
+}
+
+// "an activity that is not the holder is at ether or at the target of a pause, not executing; so is a holder in R"
+fn rests_unless_running(
+    rows: &[u32],
+    index: &[u32],
+    pauses: &[u8],
+    a: usize,
+    x: Task,
+    y: Act,
+) -> bool
+    requires { ⌜ Prepared (now rows) (now index) × T (known (tableIn (now rows) (now index)) (y .place)) × (now pauses ≡ pauseMarks (tableIn (now rows) (now index)) (tableIn (now rows) (now index) .nedges)) ⌝ }
+    ensures { λ r. ⌜ r ≡ restsUnlessRunning (tableIn (now (rows .entry)) (now (index .entry))) a x y ⌝ }
+{
+    let h = x.holder;
+    if records::may_run(h, a, y.halt) {
         return true;
     }
     let p = y.place;
@@ -184,25 +181,46 @@ fn rests_unless_running(rows: &[u32], index: &[u32], pauses: &[u8], holds: bool,
     !y.executing
 }
 
-// "a holder not in R at a thread-safe codel executes"
-fn executes_when_safe(rows: &[u32], index: &[u32], holds: bool, y: Act) -> bool
-    requires { ⌜ Prepared (now rows) (now index) × T (known (tableIn (now rows) (now index)) (y .place)) ⌝ }
-    ensures { λ r. ⌜ r ≡ executesWhenSafe (tableIn (now (rows .entry)) (now (index .entry))) holds (y .halt) (y .place) (y .executing) ⌝ }
+// "a holder at ether is in N or R"
+fn listed_at_ether(a: usize, x: Task, y: Act) -> bool
+    ensures { λ r. ⌜ r ≡ listedAtEther a x y ⌝ }
 {
-    if !records::both(holds, !y.halt) {
+    let h = x.holder;
+    let p = y.place;
+    records::implied(
+        records::both(records::is_held(h, a), records::is_ether(p)),
+        records::either(y.run, y.halt),
+    )
+}
+
+// "nothing executes at ether"
+fn still_at_ether(y: Act) -> bool
+    ensures { λ r. ⌜ r ≡ stillAtEther y ⌝ }
+{
+    let p = y.place;
+    records::implied(records::is_ether(p), !y.executing)
+}
+
+// "a holder not in R at a thread-safe codel executes"
+fn executes_when_safe(rows: &[u32], index: &[u32], a: usize, x: Task, y: Act) -> bool
+    requires { ⌜ Prepared (now rows) (now index) × T (known (tableIn (now rows) (now index)) (y .place)) ⌝ }
+    ensures { λ r. ⌜ r ≡ executesWhenSafe (tableIn (now (rows .entry)) (now (index .entry))) a x y ⌝ }
+{
+    let h = x.holder;
+    if !records::may_run(h, a, y.halt) {
         return true;
     }
     let p = y.place;
     match p {
         Place::Ether => true,
-        Place::Codel(c) => implied(prepared::is_safe(rows, index, c), y.executing),
+        Place::Codel(c) => records::implied(prepared::is_safe(rows, index, c), y.executing),
     }
 }
 
 // "an executing clock is at most the limit, every other clock is 0"
 fn clock_ok(rows: &[u32], index: &[u32], y: Act) -> bool
     requires { ⌜ Prepared (now rows) (now index) × T (known (tableIn (now rows) (now index)) (y .place)) ⌝ }
-    ensures { λ r. ⌜ r ≡ clockOk (tableIn (now (rows .entry)) (now (index .entry))) (y .place) (y .executing) (y .clock) ⌝ }
+    ensures { λ r. ⌜ r ≡ clockOk (tableIn (now (rows .entry)) (now (index .entry))) y ⌝ }
 {
     if !y.executing {
         return y.clock == 0;
@@ -214,47 +232,21 @@ fn clock_ok(rows: &[u32], index: &[u32], y: Act) -> bool
     }
 }
 
-// "a waiting manager .. has N and R empty"
-fn sets_while_managing(managing: bool, y: Act) -> bool
-    ensures { λ r. ⌜ r ≡ setsWhileManaging managing (y .run) (y .halt) ⌝ }
-{
-    implied(records::either(y.run, y.halt), managing)
-}
-
-// "a holder at ether is in N or R"
-fn listed_at_ether(holds: bool, y: Act) -> bool
-    ensures { λ r. ⌜ r ≡ listedAtEther holds (y .run) (y .halt) (y .place) ⌝ }
-{
-    let p = y.place;
-    implied(
-        records::both(holds, is_ether(p)),
-        records::either(y.run, y.halt),
-    )
-}
-
-// "nothing executes at ether"
-fn still_at_ether(y: Act) -> bool
-    ensures { λ r. ⌜ r ≡ stillAtEther (y .place) (y .executing) ⌝ }
-{
-    let p = y.place;
-    implied(is_ether(p), !y.executing)
-}
-
-// The sentences on one activity that ask whether it holds or where it is, at a place that has a row.
-fn fine_place(rows: &[u32], index: &[u32], pauses: &[u8], holds: bool, y: Act) -> bool
+// The sentences on one activity that ask who holds, or what the rows say of its place, which has a row.
+fn fine_place(rows: &[u32], index: &[u32], pauses: &[u8], a: usize, x: Task, y: Act) -> bool
     requires { ⌜ Prepared (now rows) (now index) × T (known (tableIn (now rows) (now index)) (y .place)) × (now pauses ≡ pauseMarks (tableIn (now rows) (now index)) (tableIn (now rows) (now index) .nedges)) ⌝ }
-    ensures { λ r. ⌜ r ≡ (restsUnlessRunning (tableIn (now (rows .entry)) (now (index .entry))) holds (y .halt) (y .place) (y .executing) and listedAtEther holds (y .run) (y .halt) (y .place) and stillAtEther (y .place) (y .executing) and executesWhenSafe (tableIn (now (rows .entry)) (now (index .entry))) holds (y .halt) (y .place) (y .executing) and clockOk (tableIn (now (rows .entry)) (now (index .entry))) (y .place) (y .executing) (y .clock)) ⌝ }
+    ensures { λ r. ⌜ r ≡ finePlace (tableIn (now (rows .entry)) (now (index .entry))) a x y ⌝ }
 {
-    if !rests_unless_running(rows, index, pauses, holds, y) {
+    if !rests_unless_running(rows, index, pauses, a, x, y) {
         return false;
     }
-    if !listed_at_ether(holds, y) {
+    if !listed_at_ether(a, x, y) {
         return false;
     }
     if !still_at_ether(y) {
         return false;
     }
-    if !executes_when_safe(rows, index, holds, y) {
+    if !executes_when_safe(rows, index, a, x, y) {
         return false;
     }
     clock_ok(rows, index, y)
@@ -269,12 +261,10 @@ fn fine_act(rows: &[u32], index: &[u32], pauses: &[u8], a: usize, x: Task, y: Ac
     if !at_own(rows, index, a, p) {
         return false;
     }
-    if !sets_while_managing(x.managing, y) {
+    if !sets_while_managing(x, y) {
         return false;
     }
-    let h = x.holder;
-    let holds = records::is_held(h, a);
-    fine_place(rows, index, pauses, holds, y)
+    fine_place(rows, index, pauses, a, x, y)
 }
 
 fn tasks_fine(rows: &[u32], index: &[u32], s: State) -> bool
@@ -387,7 +377,7 @@ fn is_fresh_act(y: Act) -> bool
     ensures { λ r. ⌜ r ≡ isFreshAct y ⌝ }
 {
     let p = y.place;
-    if !is_ether(p) {
+    if !records::is_ether(p) {
         return false;
     }
     if y.executing {
@@ -406,7 +396,7 @@ fn tasks_fresh(n: usize, s: State) -> bool
     let mut t = 0;
     while t < model::MOST_TASKS {
         let x = s.tasks[t];
-        if !implied(n <= t, is_fresh_task(x)) {
+        if !records::implied(n <= t, is_fresh_task(x)) {
             return false;
         }
         t += 1;
@@ -421,7 +411,7 @@ fn acts_fresh(n: usize, s: State) -> bool
     let mut a = 0;
     while a < model::MOST_ACTS {
         let y = s.acts[a];
-        if !implied(n <= a, is_fresh_act(y)) {
+        if !records::implied(n <= a, is_fresh_act(y)) {
             return false;
         }
         a += 1;

@@ -20,7 +20,7 @@ use Rattle.model.specs.declared.State.{State}
 use Rattle.model.specs.declared.Step.{Step}
 use Rattle.model.specs.declared.Line.{Line}
 use Rattle.model.specs.declared.Line.the-variants.{Is, Bad}
-use Rattle.log.specs.Lines.{readLine}
+use Rattle.log.specs.Lines.{setDigits, readLine}
 use Rattle.log.proofs.Bounds.{read-line-bounds}
 use Rattle.table.specs.Checks.{says, checkTable}
 use Rattle.table.specs.Tables.{tableOf}
@@ -81,7 +81,7 @@ module _ (K : Table) (s : State) (c : Tally) (room : ℕ) (x : Step) where
       (λ h. rw h)
 
   -- a line that reads as a step is the only one
-  one-line : (l : List ℕ) → readLine l ≡ Is x → answerOf s (played K s c room (pieces l 0)) ≡ lineStepped K s (Is x)
+  one-line : (l : List ℕ) → readLine setDigits l ≡ Is x → answerOf s (played K s c room (pieces l 0)) ≡ lineStepped K s (Is x)
   unfolding readLine
   one-line l h =
       let t = picked (eqb (firstAt l 0 10 + 1) (length l)) no-step h in
@@ -93,22 +93,22 @@ module _ (K : Table) (s : State) (c : Tally) (room : ℕ) (x : Step) where
       (on-step (pieces l 0) (pieces l (firstAt l 0 10 + 1)) _ (λ w d n. at-end K w d n l (firstAt l 0 10 + 1) (omega arith)))
 
 -- each count has room for such a line
-pub line-roomy : (s : State) (g : Going) (l : List ℕ) (y : Line) (x : Step) → g ≡ goingFrom s → y ≡ readLine l → y ≡ Is x → Roomy (g .tally) (length l - 0)
-line-roomy s g l y x f e h = roomy s g f (length l - 0) (omega (arith, read-line-bounds l x (sym e ∙ h) .0))
+pub line-roomy : (s : State) (g : Going) (l : List ℕ) (y : Line) (x : Step) → g ≡ goingFrom s → y ≡ readLine setDigits l → y ≡ Is x → Roomy (g .tally) (length l - 0)
+line-roomy s g l y x f e h = roomy s g f (length l - 0) (omega (arith, read-line-bounds setDigits l x (sym e ∙ h) .0))
 
 -- the answers on a line
-module _ (K : Table) (s : State) (l : List ℕ) (y : Line) (e : y ≡ readLine l) where
-  pub line-bad : y ≡ Bad → record { number = 11; state = s } ≡ lineStepped K s (readLine l)
+module _ (K : Table) (s : State) (l : List ℕ) (y : Line) (e : y ≡ readLine setDigits l) where
+  pub line-bad : y ≡ Bad → record { number = 11; state = s } ≡ lineStepped K s (readLine setDigits l)
   line-bad h = rw (← e, h)
 
   module _ (x : Step) (h : y ≡ Is x) (g : Going) (f : g ≡ goingFrom s) (buf : List ℕ) (place : ℕ) (r : Ran) (after : List ℕ) (R : Runs K l 0 g buf place r after) where
-    ran : answerOn (r .stop) s (r .going .state) ≡ lineStepped K s (readLine l)
+    ran : answerOn (r .stop) s (r .going .state) ≡ lineStepped K s (readLine setDigits l)
     ran = ap (answerOf s) (R .played) ∙ rw (f, ← e, h) (one-line K s noTally (length buf - place) x l (sym e ∙ h))
 
-    pub line-refused : (n : ℕ) → r .stop ≡ Refused n → record { number = n; state = s } ≡ lineStepped K s (readLine l)
+    pub line-refused : (n : ℕ) → r .stop ≡ Refused n → record { number = n; state = s } ≡ lineStepped K s (readLine setDigits l)
     line-refused n p = rw p at ran
 
-    pub line-accepted : OneOf (0 ∷ 2 ∷ []) (tagOf the-type (r .stop)) → record { number = 0; state = r .going .state } ≡ lineStepped K s (readLine l)
+    pub line-accepted : OneOf (0 ∷ 2 ∷ []) (tagOf the-type (r .stop)) → record { number = 0; state = r .going .state } ≡ lineStepped K s (readLine setDigits l)
     line-accepted p = goes-on (r .stop) p s (r .going .state) ∙ ran
 
 -- and on a table and a state that may be refused
@@ -122,6 +122,6 @@ module _ (t : rows.Table) (s : State) (l : List ℕ) (q : Read) (e : says q ≡ 
     unfolding stepped
     state-unsound h = rw (← e, a, ← i, ← f, not-true b h)
 
-    pub step-is : not b ≡ false → (r : Stepped) → r ≡ lineStepped K s (readLine l) → r ≡ stepped t s l
+    pub step-is : not b ≡ false → (r : Stepped) → r ≡ lineStepped K s (readLine setDigits l) → r ≡ stepped t s l
     unfolding stepped
     step-is h r g = rw (← e, a, ← i, ← f, not-false b h) g

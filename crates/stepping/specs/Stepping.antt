@@ -10,7 +10,7 @@ use Rattle.model.specs.Rules.{refusal, next, lineRefusal}
 use Rattle.model.specs.declared.State.{State}
 use Rattle.model.specs.declared.Line.{Line}
 use Rattle.model.specs.declared.Line.the-variants as line
-use Rattle.log.specs.Lines.{readLine}
+use Rattle.log.specs.Lines.{setDigits, readLine}
 use Rattle.table.specs.Checks.{checkTable}
 use Rattle.table.specs.Tables.{tableOf}
 use Rattle.table.specs.Texts.{isEmpty}
@@ -29,6 +29,6 @@ unfoldable pub stepped : rows.Table → State → List ℕ → Stepped
 stepped t s l =
     pick (isEmpty (checkTable t .numbers))
     (pick (sound (tableOf t) s)
-    (lineStepped (tableOf t) s (readLine l))
+    (lineStepped (tableOf t) s (readLine setDigits l))
     (record { number = 19; state = s }))
     (record { number = 19; state = s })

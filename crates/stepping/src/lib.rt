@@ -2,7 +2,7 @@
 ghost use mathlib.Core.Path.{_≡_};
 ghost use lib.Dec.{T};
 ghost use Rattle.model.specs.Sound.{sound};
-ghost use Rattle.log.specs.Lines.{readLine};
+ghost use Rattle.log.specs.Lines.{setDigits, readLine};
 ghost use Rattle.prepared.specs.Prepared.{tableIn, Prepared};
 ghost use Rattle.stepping.specs.Stepping.{lineStepped, stepped};
 use engine::Stop;
@@ -20,9 +20,9 @@ pub struct Stepped {
 // A line's step on a sound state: a run over that one line, with no room for the row of a cycle that it keeps. "A refusal returns the number and the state as it came."
 fn step_line(rows: &[u32], index: &[u32], s: State, line: &[u8]) -> Stepped
     requires { ⌜ Prepared (now rows) (now index) × T (sound (tableIn (now rows) (now index)) s) ⌝ }
-    ensures { λ r. ⌜ r ≡ lineStepped (tableIn (now (rows .entry)) (now (index .entry))) s (readLine (now (line .entry))) ⌝ }
+    ensures { λ r. ⌜ r ≡ lineStepped (tableIn (now (rows .entry)) (now (index .entry))) s (readLine setDigits (now (line .entry))) ⌝ }
 {
-    let Line::Is(_) = log::read_line(line) else {
+    let Line::Is(_) = log::read_line(line, log::SET_DIGITS) else {
         return Stepped {
             number: 11,
             state: s,

@@ -11,7 +11,8 @@ use borrow.Author.Tests.{lt-ltb, le-ltb, ltb-true}
 use Rattle.text.specs.Parts.{pick, splitOn, partsFrom, firstAt}
 use Rattle.text.proofs.Picks.{cases, order, false-true}
 use Rattle.text.proofs.Parts.{parts-cut, parts-none, parts-all, cut-length}
-use Rattle.text.proofs.Turns.{same-short, part-starts}
+use Rattle.text.proofs.Seeking.{part-starts}
+use Rattle.text.proofs.Alike.{same-short}
 use Rattle.table.specs.Texts.{longest}
 use Rattle.stream.specs.Cut.{endMark, isEnd, endIn, cutOf, cutKnown}
 use Rattle.stream.proofs.Pieces.{followed, followed-none, split-append}

@@ -21,7 +21,7 @@ use Rattle.model.specs.declared.Line.the-variants as line
 use Rattle.model.proofs.Formed.{Formed}
 use Rattle.model.proofs.Soundness.{Sound}
 use Rattle.model.proofs.StepsKeep.{step-keeps}
-use Rattle.log.specs.Lines.{readStep}
+use Rattle.log.specs.Lines.{setDigits, readStep}
 use Rattle.report.specs.Rows.{cycleOf, cycleText}
 use Rattle.tally.specs.Tallies.{keepsOne, counted, tallied, Roomy}
 use Rattle.tally.specs.declared.Tally.{Tally}
@@ -108,7 +108,7 @@ module _ (K : Table) (F : Formed K) where
   leaves [] s c room S = record { sound = S; grown = grown-none 0 c }
   leaves ([] ∷ []) s c room S = record { sound = S; grown = grown-none 1 c }
   leaves ((b ∷ p) ∷ []) s c room S = record { sound = S; grown = grown-none 1 c }
-  leaves (p ∷ q ∷ ps) s c room S = on-line (readStep p) (length (q ∷ ps)) s c room (p ∷ q ∷ ps) (q ∷ ps) _ S (λ w d m. leaves (q ∷ ps) w d m)
+  leaves (p ∷ q ∷ ps) s c room S = on-line (readStep setDigits p) (length (q ∷ ps)) s c room (p ∷ q ∷ ps) (q ∷ ps) _ S (λ w d m. leaves (q ∷ ps) w d m)
 
 -- there are no more lines than bytes, but for the last
 few-pieces : (s : List ℕ) → length (splitOn 10 s) ≤ length s + 1

@@ -9,7 +9,8 @@ use Rattle.model.specs.Limits.{mostTasks, mostActs}
 use Rattle.model.specs.Tables.{Table}
 use Rattle.model.specs.declared.State.{State}
 use Rattle.table.specs.Texts.{isEmpty, readTable}
-use Rattle.waits.specs.Beside.{busyIn, listedIn}
+use Rattle.conflicts.specs.Busy.{busyIn}
+use Rattle.managing.specs.Listed.{listedIn}
 use Rattle.tally.specs.declared.Tally.{Tally}
 use Rattle.engine.specs.Play.{Played, Ready}
 use Rattle.engine.specs.declared.Going.{Going}

@@ -12,10 +12,10 @@ use Rattle.model.specs.Tests.{_implies_}
 use Rattle.model.specs.Limits.{mostTasks, mostActs, mostCodels, mostTicks, inRange}
 use Rattle.model.specs.Tables.{known, targetOf}
 use Rattle.model.specs.Tables as model
-use Rattle.row.specs.Kinds.{mostOf, formOf}
+use Rattle.row.specs.Kinds.{storedKinds, mostOf, formOf}
 use Rattle.row.specs.declared.Row.{Row}
 use Rattle.table.specs.Tables.{slots, Counted, tableOf}
-use Rattle.table.specs.Checks.{inPlace, kindFault, rowFault}
+use Rattle.table.specs.Checks.{inPlace, faultAt, kindFault, rowFault}
 use Rattle.table.specs.declared.Table.{Table}
 use Rattle.table.proofs.Tests.{both, needed, each-at}
 use Rattle.table.proofs.Faults.{task-passes, act-passes, codel-passes, edge-passes, mutex-passes}
@@ -34,7 +34,7 @@ pub record Follows (t : Table) (r : Row) : Type 0 where
 
 -- what it shows
 pub record Accepted (t : Table) (r : Row) : Type 0 where
-  pub later : (j : ℕ) → r .kind < j → j < 5 → getD (t .counts) j 0 ≡ 0
+  pub later : (j : ℕ) → r .kind < j → j < storedKinds → getD (t .counts) j 0 ≡ 0
   pub room : getD (t .counts) (r .kind) 0 < mostOf (r .kind)
   pub limited : Limited r
 
@@ -56,7 +56,7 @@ module _ (t : Table) (counted : Counted (t .counts)) where
   K = tableOf t
 
   abbrev Shows : Row → Type 0
-  Shows r = Worded r → kindFault K r ≡ 0 → (getD (t .counts) (r .kind) 0 < mostOf (r .kind)) × Limited r
+  Shows r = Worded r → kindFault t r ≡ 0 → (getD (t .counts) (r .kind) 0 < mostOf (r .kind)) × Limited r
 
   codel : (v : ℕ) → ltb v (K .ncodels) ≡ true → v < mostCodels
   unfolding tableOf mostOf
@@ -69,8 +69,8 @@ module _ (t : Table) (counted : Counted (t .counts)) where
       (λ e. rw (eqb-true v etherValue e))
       (λ e. let l : ltb v (K .ncodels) ≡ true = rw e at h in below 3 1 v (codel v l))
 
-  shows : (r : Row) → r .kind < 5 → Shows r
-  unfolding kindFault tableOf mostOf capOf limitOf formOf
+  shows : (r : Row) → r .kind < storedKinds → Shows r
+  unfolding kindFault faultAt tableOf mostOf capOf limitOf formOf
   shows =
       by-kind Shows
       (λ a b c w f.
@@ -99,7 +99,7 @@ accepted {t} {r} f =
     let s = shows t (f .sized .counted) r (f .worded .kind) (f .worded) (a .1) in
     record {
       later = λ j h l.
-          eqb-true _ _ (rw (lt-ltb _ _ h) at (each-at 5 (λ i. ltb (r .kind) i implies eqb (getD (t .counts) i 0) 0) (a .0) j l));
+          eqb-true _ _ (rw (lt-ltb _ _ h) at (each-at storedKinds (λ i. ltb (r .kind) i implies eqb (getD (t .counts) i 0) 0) (a .0) j l));
       room = s .0;
       limited = s .1;
     }

@@ -6,7 +6,7 @@ use native.Mathlib.Omega.{arith}
 use lib.ListN.{getD}
 use lib.Dec.{ltb}
 use borrow.Author.Tests.{lt-ltb}
-use Rattle.row.specs.Kinds.{mostOf}
+use Rattle.row.specs.Kinds.{storedKinds, mostOf}
 use Rattle.row.specs.declared.Row.{Row}
 use Rattle.model.specs.Rows.{lastFault}
 use Rattle.table.specs.Tables.{emptyTable, addRow, tableOf}
@@ -58,12 +58,12 @@ abbrev AllWorded : List Row → Type 0
 AllWorded [] = Unit
 AllWorded (r ∷ rs) = Worded r × AllWorded rs
 
-from-worded : (rows : List ℕ) (k i n : ℕ) (rs : List Row) → k < 5 → AllWorded rs → AllWorded (rowsFrom rows k i n ++ rs)
+from-worded : (rows : List ℕ) (k i n : ℕ) (rs : List Row) → k < storedKinds → AllWorded rs → AllWorded (rowsFrom rows k i n ++ rs)
 unfolding rowsFrom
 from-worded rows k i zero rs h w = w
 from-worded rows k i (suc n) rs h w = (row-worded rows k i h, from-worded rows k (i + 1) n rs h w)
 
-kinds-worded : (t : Table) (n k : ℕ) → k + n ≡ 5 → AllWorded (kindsFrom t k n)
+kinds-worded : (t : Table) (n k : ℕ) → k + n ≡ storedKinds → AllWorded (kindsFrom t k n)
 unfolding kindsFrom
 kinds-worded t zero k e = tt
 kinds-worded t (suc n) k e =
@@ -91,7 +91,7 @@ check-whole (r ∷ rs) t l u s w e =
 -- so a given table that is accepted is made of its rows
 pub table-whole : (t u : Table) → checkTable t ≡ accepts u → Whole emptyTable (rowsOf t) u
 unfolding checkTable
-table-whole t u e = check-whole (rowsOf t) emptyTable 1 u empty-sized (kinds-worded t 5 0 refl) e
+table-whole t u e = check-whole (rowsOf t) emptyTable 1 u empty-sized (kinds-worded t storedKinds 0 refl) e
 
 -- and such a table is accepted
 pub whole-check : {t u : Table} {rs : List Row} (l : ℕ) → Built t rs u → lastFault (tableOf u) ≡ 0 → checkRows t l rs ≡ accepts u

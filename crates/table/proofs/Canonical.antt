@@ -1,5 +1,5 @@
 -- Canonical tables: those that are made of their rows.
-use Prim.Native.Nat.{ℕ, _+_, _-_, _*_, _/_, _%_, _≤_, _<_}
+use Prim.Native.Nat.{ℕ, zero, suc, _+_, _-_, _*_, _/_, _%_, _≤_, _<_}
 use mathlib.Core.Path.{_≡_, sym, ap, _∙_}
 use mathlib.Core.List.{List}
 use mathlib.Core.Bool.{true}
@@ -12,7 +12,7 @@ use lib.Dec.{ltb, eqb}
 use borrow.Author.Tests.{lt-ltb, le-ltb, le-leb, eq-eqb, ltb-true, leb-true, eqb-true, eqb-false}
 use Rattle.text.specs.Parts.{pick}
 use Rattle.text.proofs.Picks.{cases, order}
-use Rattle.row.specs.Kinds.{noField, aKind, aMode, mostOf, formOf}
+use Rattle.row.specs.Kinds.{storedKinds, noField, aKind, aMode, mostOf, formOf}
 use Rattle.row.specs.declared.Row.{Row}
 use Rattle.model.specs.Tests.{each}
 use Rattle.table.specs.Tables.{slots, emptyTable, baseOf, slotOf, etherSlot, narrowed, widened, shown, fieldOf, storedOk, numberOk, canonical, addRow}
@@ -21,7 +21,7 @@ use Rattle.table.specs.declared.Table.{Table}
 use Rattle.table.proofs.Tests.{both, each-at, each-all}
 use Rattle.table.proofs.Fields.{three}
 use Rattle.table.proofs.Accepted.{Sized, Follows}
-use Rattle.table.proofs.Stored.{placeOf, stretch, empty-sized, added-sized, stored-field, other-field, stored-number, other-number, count-same, count-other}
+use Rattle.table.proofs.Stored.{placeOf, base-first, base-next, base-last, stretch, empty-sized, added-sized, stored-field, other-field, stored-number, other-number, count-same, count-other}
 use Rattle.table.proofs.Grown.{same-counts, same-grown}
 use Rattle.table.proofs.Built.{Built, done, more, built-all, table-whole}
 
@@ -60,7 +60,7 @@ expected t k i j = pick (ltb i (getD (t .counts) k 0)) (narrowed (fieldOf (t .ro
 
 record Settled (t : Table) : Type 0 where
   sized : Sized t
-  numbers : (k i j : ℕ) → k < 5 → i < mostOf k → j < 3 → numberAt t k i j ≡ expected t k i j
+  numbers : (k i j : ℕ) → k < storedKinds → i < mostOf k → j < 3 → numberAt t k i j ≡ expected t k i j
 
 settled-empty : Settled emptyTable
 settled-empty =
@@ -68,7 +68,7 @@ settled-empty =
       sized = empty-sized;
       numbers = λ k i j h l m.
           let b = stretch k h in
-          rw (getD-replicate {A = ℕ} slots (slotOf k i + j) 0 0 (omega arith), getD-replicate {A = ℕ} 5 k 0 0 h, le-ltb i 0 (omega arith));
+          rw (getD-replicate {A = ℕ} slots (slotOf k i + j) 0 0 (omega arith), getD-replicate {A = ℕ} storedKinds k 0 0 h, le-ltb i 0 (omega arith));
     }
 
 -- a row that is accepted behind the rows of such a table
@@ -94,11 +94,11 @@ module _ {t : Table} {r : Row} (f : Follows t r) where
   settled-added : Settled t → Settled (addRow t r)
   settled-added s = record { sized = added-sized f; numbers = numbers }
     where
-      other : (k i j : ℕ) → k < 5 → i < mostOf k → j < 3 → (k ≡ r .kind → i ≡ placeOf t r → ⊥)
+      other : (k i j : ℕ) → k < storedKinds → i < mostOf k → j < 3 → (k ≡ r .kind → i ≡ placeOf t r → ⊥)
           → numberAt (addRow t r) k i j ≡ expected (addRow t r) k i j
-      other k i j h l m ne = rw (other-number f k i j h l m ne, other-field f k i j h m ne, still k i ne) (s .numbers k i j h l m)
+      other k i j h l m ne = rw (other-number f k i j l m ne, other-field f k i j m ne, still k i ne) (s .numbers k i j h l m)
 
-      numbers : (k i j : ℕ) → k < 5 → i < mostOf k → j < 3 → numberAt (addRow t r) k i j ≡ expected (addRow t r) k i j
+      numbers : (k i j : ℕ) → k < storedKinds → i < mostOf k → j < 3 → numberAt (addRow t r) k i j ≡ expected (addRow t r) k i j
       numbers k i j h l m =
           cases (eqb k (r .kind))
           (λ e. cases (eqb i (placeOf t r))
@@ -115,7 +115,7 @@ settled-canonical : (t : Table) → Settled t → canonical t ≡ true
 unfolding canonical numberOk fieldOf
 settled-canonical t s =
     rw (eq-eqb _ _ (s .sized .counted .kinds), eq-eqb _ _ (s .sized .size))
-    (each-all 5 (λ k. each (mostOf k) (λ i. each 3 (numberOk t k i))) (λ k h.
+    (each-all storedKinds (λ k. each (mostOf k) (λ i. each 3 (numberOk t k i))) (λ k h.
     each-all (mostOf k) (λ i. each 3 (numberOk t k i)) (λ i l.
     each-all 3 (numberOk t k i) (λ j m.
     let n = s .numbers k i j h l m in
@@ -123,52 +123,49 @@ settled-canonical t s =
     (λ e. rw e (kept-stored (formOf k j) (numberAt t k i j) (sym (rw (e, lt-ltb _ _ l) at n))))
     (λ e. rw e (eq-eqb _ 0 (rw e at n)))))))
 
--- each number stands in the row of a kind
-by-row : (P : ℕ → Type 0) → ((k i j : ℕ) → k < 5 → i < mostOf k → j < 3 → P (slotOf k i + j))
-    → (q j : ℕ) → q < 1360 → j < 3 → P (3 * q + j)
-unfolding baseOf mostOf
-by-row P f q j h l =
-    order q 16 (λ a. at 0 (omega arith) (f 0 (q - 0) j (omega arith) (omega arith) l))
-    (λ a. order q 80 (λ b. at 16 a (f 1 (q - 16) j (omega arith) (omega arith) l))
-    (λ b. order q 336 (λ c. at 80 b (f 2 (q - 80) j (omega arith) (omega arith) l))
-    (λ c. order q 848 (λ d. at 336 c (f 3 (q - 336) j (omega arith) (omega arith) l))
-    (λ d. at 848 d (f 4 (q - 848) j (omega arith) (omega arith) l)))))
-  where
-    at : (b : ℕ) → b ≤ q → P (3 * (b + (q - b)) + j) → P (3 * q + j)
-    at b m p = let e : b + (q - b) ≡ q = omega arith in rw e at p
+-- each number stands in the row of a kind: among the rows of the first n kinds
+by-row : (P : ℕ → Type 0) → ((k i j : ℕ) → k < storedKinds → i < mostOf k → j < 3 → P (slotOf k i + j))
+    → (n : ℕ) → n ≤ storedKinds → (q j : ℕ) → q < baseOf n → j < 3 → P (3 * q + j)
+by-row P f zero m q j h l = absurd (omega (arith, base-first))
+by-row P f (suc n) m q j h l =
+    order q (baseOf n)
+    (λ a. by-row P f n (omega arith) q j a l)
+    (λ a.
+    let e : baseOf n + (q - baseOf n) ≡ q = omega arith in
+    rw e at (f n (q - baseOf n) j m (omega (arith, base-next n)) l))
 
-by-place : (P : ℕ → Type 0) → ((k i j : ℕ) → k < 5 → i < mostOf k → j < 3 → P (slotOf k i + j))
+by-place : (P : ℕ → Type 0) → ((k i j : ℕ) → k < storedKinds → i < mostOf k → j < 3 → P (slotOf k i + j))
     → (p : ℕ) → p < slots → P p
 by-place P f p h =
     let e = div-add-mod p 3 in
     let l = mod-lt p (zero-lt-suc 2) in
-    rw e at (by-row P f (p / 3) (p % 3) (omega arith) l)
+    rw e at (by-row P f storedKinds (omega arith) (p / 3) (p % 3) (omega (arith, base-last)) l)
 
 -- a canonical table is the one that its rows make
 module _ (t u : Table) (e : rowsOf t ≡ rowsOf u) (s : Settled u) (c : canonical t ≡ true) where
   record Parts : Type 0 where
-    counts : length (t .counts) ≡ 5
+    counts : length (t .counts) ≡ storedKinds
     rows : length (t .rows) ≡ slots
-    numbers : (k i j : ℕ) → k < 5 → i < mostOf k → j < 3 → numberOk t k i j ≡ true
+    numbers : (k i j : ℕ) → k < storedKinds → i < mostOf k → j < 3 → numberOk t k i j ≡ true
 
   parts : Parts
   unfolding canonical
   parts =
-      let a = both (eqb (length (t .counts)) 5) c in
+      let a = both (eqb (length (t .counts)) storedKinds) c in
       let b = both (eqb (length (t .rows)) slots) (a .1) in
       record {
         counts = eqb-true _ _ (a .0);
         rows = eqb-true _ _ (b .0);
-        numbers = λ k i j h l m. each-at 3 _ (each-at (mostOf k) _ (each-at 5 _ (b .1) k h) i l) j m;
+        numbers = λ k i j h l m. each-at 3 _ (each-at (mostOf k) _ (each-at storedKinds _ (b .1) k h) i l) j m;
       }
 
-  same-field : (k i j : ℕ) → k < 5 → i < getD (t .counts) k 0 → j < 3 → fieldOf (u .rows) k i j ≡ fieldOf (t .rows) k i j
+  same-field : (k i j : ℕ) → k < storedKinds → i < getD (t .counts) k 0 → j < 3 → fieldOf (u .rows) k i j ≡ fieldOf (t .rows) k i j
   same-field k i j h l =
       let r = same-grown t u e .rows k i h l in
       three (λ j. fieldOf (u .rows) k i j ≡ fieldOf (t .rows) k i j)
       (ap (λ (x : Row). x .a) r) (ap (λ (x : Row). x .b) r) (ap (λ (x : Row). x .c) r) j
 
-  same-number : (k i j : ℕ) → k < 5 → i < mostOf k → j < 3 → numberAt u k i j ≡ numberAt t k i j
+  same-number : (k i j : ℕ) → k < storedKinds → i < mostOf k → j < 3 → numberAt u k i j ≡ numberAt t k i j
   unfolding numberOk fieldOf
   same-number k i j h l m =
       let n = s .numbers k i j h l m in

@@ -1,6 +1,6 @@
 -- The values that the fields of an accepted row have: each field's limit, and that a line says and 32 bits keep what is within it.
 use Prim.Native.Nat.{ℕ, zero, suc, _+_, _*_, _≤_, _<_, min}
-use mathlib.Core.Path.{_≡_, refl, sym}
+use mathlib.Core.Path.{_≡_, refl, sym, _∙_}
 use mathlib.Core.List.{List, [], _∷_, _++_}
 use mathlib.Core.Bool.{Bool, true, false}
 use native.Mathlib.Omega.{arith}
@@ -11,20 +11,29 @@ use Rattle.text.specs.Fields.{etherValue}
 use Rattle.text.proofs.Picks.{cases, order, picked, false-true}
 use Rattle.model.specs.Tests.{_and_, _or_, each}
 use Rattle.model.specs.Limits.{mostTasks, mostActs, mostCodels, mostTicks}
-use Rattle.row.specs.Kinds.{endKind, aNumber, aTarget, mostOf, formOf}
+use Rattle.row.specs.Kinds.{storedKinds, endKind, noField, aNumber, aKind, aMode, aTarget, mostOf, formOf}
 use Rattle.row.specs.Row.{formOk, rowOk}
 use Rattle.row.specs.declared.Row.{Row}
 use Rattle.table.specs.Tables.{etherSlot, narrowed, widened, shown, slotOf, fieldOf, rowOf}
 use Rattle.table.proofs.Tests.{both, each-at}
 
--- by the five kinds or forms
-pub five : (P : ℕ → Type 0) → P 0 → P 1 → P 2 → P 3 → P 4 → (k : ℕ) → k < 5 → P k
-five P a b c d e zero h = a
-five P a b c d e (suc zero) h = b
-five P a b c d e (suc (suc zero)) h = c
-five P a b c d e (suc (suc (suc zero))) h = d
-five P a b c d e (suc (suc (suc (suc zero)))) h = e
-five P a b c d e (suc (suc (suc (suc (suc k))))) h = absurd (omega arith)
+-- by the stored kinds
+pub at-kind : (P : ℕ → Type 0) → P 0 → P 1 → P 2 → P 3 → P 4 → (k : ℕ) → k < storedKinds → P k
+at-kind P a b c d e zero h = a
+at-kind P a b c d e (suc zero) h = b
+at-kind P a b c d e (suc (suc zero)) h = c
+at-kind P a b c d e (suc (suc (suc zero))) h = d
+at-kind P a b c d e (suc (suc (suc (suc zero)))) h = e
+at-kind P a b c d e (suc (suc (suc (suc (suc k))))) h = absurd (omega arith)
+
+-- by the forms
+by-form : (P : ℕ → Type 0) → P noField → P aNumber → P aKind → P aMode → P aTarget → (form : ℕ) → form ≤ aTarget → P form
+by-form P a b c d e zero h = a
+by-form P a b c d e (suc zero) h = b
+by-form P a b c d e (suc (suc zero)) h = c
+by-form P a b c d e (suc (suc (suc zero))) h = d
+by-form P a b c d e (suc (suc (suc (suc zero)))) h = e
+by-form P a b c d e (suc (suc (suc (suc (suc form))))) h = absurd (omega arith)
 
 -- a row by its numbers
 abbrev pub rowBy : ℕ → ℕ → ℕ → ℕ → Row
@@ -32,12 +41,12 @@ rowBy k a b c = record { kind = k; a = a; b = b; c = c }
 
 -- by a row's kind
 pub by-kind : (P : Row → Type 0) → ((a b c : ℕ) → P (rowBy 0 a b c)) → ((a b c : ℕ) → P (rowBy 1 a b c)) → ((a b c : ℕ) → P (rowBy 2 a b c))
-    → ((a b c : ℕ) → P (rowBy 3 a b c)) → ((a b c : ℕ) → P (rowBy 4 a b c)) → (r : Row) → r .kind < 5 → P r
+    → ((a b c : ℕ) → P (rowBy 3 a b c)) → ((a b c : ℕ) → P (rowBy 4 a b c)) → (r : Row) → r .kind < storedKinds → P r
 by-kind P p₀ p₁ p₂ p₃ p₄ r =
     let a = r .a in
     let b = r .b in
     let c = r .c in
-    five (λ k. P (rowBy k a b c)) (p₀ a b c) (p₁ a b c) (p₂ a b c) (p₃ a b c) (p₄ a b c) (r .kind)
+    at-kind (λ k. P (rowBy k a b c)) (p₀ a b c) (p₁ a b c) (p₂ a b c) (p₃ a b c) (p₄ a b c) (r .kind)
 
 -- by the three fields
 pub three : (P : ℕ → Type 0) → P 0 → P 1 → P 2 → (j : ℕ) → j < 3 → P j
@@ -85,19 +94,19 @@ unfoldable pub within : ℕ → ℕ → ℕ → Bool
 within k j v = ltb v (limitOf k j) or isEtherAt (formOf k j) v
 
 -- the limits as the forms have them
-caps : (k : ℕ) → k < 5 → (j : ℕ) → j < 3 → (formOf k j < 5) × (limitOf k j ≤ capOf (formOf k j))
+caps : (k : ℕ) → k < storedKinds → (j : ℕ) → j < 3 → (formOf k j ≤ aTarget) × (limitOf k j ≤ capOf (formOf k j))
 unfolding capOf limitOf formOf each
 caps k h j l =
-    let t = each-at 3 (λ i. ltb (formOf k i) 5 and leb (limitOf k i) (capOf (formOf k i)))
-    (each-at 5 (λ m. each 3 (λ i. ltb (formOf m i) 5 and leb (limitOf m i) (capOf (formOf m i)))) refl k h) j l in
-    let b = both (ltb (formOf k j) 5) t in
-    (ltb-true _ _ (b .0), leb-true _ _ (b .1))
+    let t = each-at 3 (λ i. leb (formOf k i) aTarget and leb (limitOf k i) (capOf (formOf k i)))
+    (each-at storedKinds (λ m. each 3 (λ i. leb (formOf m i) aTarget and leb (limitOf m i) (capOf (formOf m i)))) refl k h) j l in
+    let b = both (leb (formOf k j) aTarget) t in
+    (leb-true _ _ (b .0), leb-true _ _ (b .1))
 
 -- below its form's cap a value is kept by 32 bits, and can be said
-kept-below : (v form : ℕ) → form < 5 → v < capOf form → shown form (narrowed v) ≡ v
+kept-below : (v form : ℕ) → form ≤ aTarget → v < capOf form → shown form (narrowed v) ≡ v
 unfolding capOf shown narrowed widened
 kept-below v =
-    five (λ form. v < capOf form → shown form (narrowed v) ≡ v)
+    by-form (λ form. v < capOf form → shown form (narrowed v) ≡ v)
     (λ h. omega arith)
     number
     (λ h. omega arith)
@@ -110,10 +119,10 @@ kept-below v =
         let n : v ≡ etherSlot → ⊥ = λ z. omega arith in
         rw (e, ne-eqb _ _ n)
 
-said-below : (v form : ℕ) → form < 5 → v < capOf form → formOk form v ≡ true
+said-below : (v form : ℕ) → form ≤ aTarget → v < capOf form → formOk form v ≡ true
 unfolding capOf formOk
 said-below v =
-    five (λ form. v < capOf form → formOk form v ≡ true)
+    by-form (λ form. v < capOf form → formOk form v ≡ true)
     (λ h. eq-eqb v 0 (omega arith))
     (λ h. lt-ltb v etherValue (omega arith))
     (λ h. lt-ltb v 3 h)
@@ -136,7 +145,7 @@ by-limit k j v h f g =
 pub below-limit : (k j v : ℕ) → eqb (formOf k j) aTarget ≡ false → within k j v ≡ true → v < limitOf k j
 below-limit k j v n h = by-limit k j v h (λ b. b) (λ f e. absurd (eqb-false _ _ n f))
 
-module _ (k : ℕ) (h : k < 5) (j : ℕ) (l : j < 3) (v : ℕ) (w : within k j v ≡ true) where
+module _ (k : ℕ) (h : k < storedKinds) (j : ℕ) (l : j < 3) (v : ℕ) (w : within k j v ≡ true) where
   -- 32 bits keep it
   pub kept : shown (formOf k j) (narrowed v) ≡ v
   unfolding shown narrowed widened
@@ -151,9 +160,17 @@ module _ (k : ℕ) (h : k < 5) (j : ℕ) (l : j < 3) (v : ℕ) (w : within k j v
       let c = caps k h j l in
       by-limit k j v w (λ b. said-below v (formOf k j) (c .0) (omega arith)) (λ f e. rw (f, e))
 
--- a row of one of the five kinds in which each field without number says one of its words, or nothing where there is none
+  -- a number is at most the most ticks
+  pub number-low : formOf k j ≡ aNumber → v ≤ mostTicks
+  unfolding capOf
+  number-low f =
+      let c = caps k h j l .1 in
+      let m : capOf (formOf k j) ≡ suc mostTicks = rw f in
+      by-limit k j v w (λ b. omega arith) (λ g e. let z : aNumber ≡ aTarget = sym f ∙ g in absurd (omega arith))
+
+-- a row of a stored kind in which each field without number says one of its words, or nothing where there is none
 pub record Worded (r : Row) : Type 0 where
-  pub kind : r .kind < 5
+  pub kind : r .kind < storedKinds
   pub words : (j : ℕ) → j < 3 → isNumber (formOf (r .kind) j) ≡ false → valueAt r j < capOf (formOf (r .kind) j)
 
 -- a row within its limits
@@ -164,18 +181,18 @@ Limited r = (j : ℕ) → j < 3 → within (r .kind) j (valueAt r j) ≡ true
 pub ok-fields : (r : Row) → rowOk r ≡ true → (j : ℕ) → j < 3 → formOk (formOf (r .kind) j) (valueAt r j) ≡ true
 unfolding rowOk
 ok-fields r h =
-    let a = picked (ltb (r .kind) 6) false-true h in
+    let a = picked (leb (r .kind) endKind) false-true h in
     let b = picked (formOk (formOf (r .kind) 0) (r .a)) false-true (a .1) in
     let c = picked (formOk (formOf (r .kind) 1) (r .b)) false-true (b .1) in
     three (λ j. formOk (formOf (r .kind) j) (valueAt r j) ≡ true) (b .0) (c .0) (c .1)
 
 -- a row within its limits can be said
-pub ok-limited : (r : Row) → r .kind < 5 → Limited r → rowOk r ≡ true
+pub ok-limited : (r : Row) → r .kind < storedKinds → Limited r → rowOk r ≡ true
 unfolding rowOk
 ok-limited r h w =
-    let k : r .kind < 6 = omega arith in
+    let k : r .kind ≤ endKind = omega arith in
     rw (
-      lt-ltb _ _ k,
+      le-leb _ _ k,
       said (r .kind) h 0 (omega arith) (r .a) (w 0 (omega arith)),
       said (r .kind) h 1 (omega arith) (r .b) (w 1 (omega arith)),
       said (r .kind) h 2 (omega arith) (r .c) (w 2 (omega arith)),
@@ -186,10 +203,10 @@ module _ (v form : ℕ) where
   number-not : {P : Type 0} → true ≡ false → P
   number-not e = absurd (false-true (sym e))
 
-  said-cap : form < 5 → isNumber form ≡ false → formOk form v ≡ true → v < capOf form
+  said-cap : form ≤ aTarget → isNumber form ≡ false → formOk form v ≡ true → v < capOf form
   unfolding capOf formOk
   said-cap =
-      five (λ f. isNumber f ≡ false → formOk f v ≡ true → v < capOf f)
+      by-form (λ f. isNumber f ≡ false → formOk f v ≡ true → v < capOf f)
       (λ n e. let z = eqb-true v 0 e in omega arith)
       (λ n e. number-not n)
       (λ n e. ltb-true v 3 e)
@@ -197,10 +214,10 @@ module _ (v form : ℕ) where
       (λ n e. number-not n)
       form
 
-  shown-cap : form < 5 → isNumber form ≡ false → (0 < capOf form) × (shown form v < capOf form)
+  shown-cap : form ≤ aTarget → isNumber form ≡ false → (0 < capOf form) × (shown form v < capOf form)
   unfolding capOf shown
   shown-cap =
-      five (λ f. isNumber f ≡ false → (0 < capOf f) × (shown f v < capOf f))
+      by-form (λ f. isNumber f ≡ false → (0 < capOf f) × (shown f v < capOf f))
       (λ n. (omega arith, omega arith))
       (λ n. number-not n)
       (λ n. (omega arith, omega arith))
@@ -212,15 +229,15 @@ module _ (v form : ℕ) where
 pub ok-worded : (r : Row) → (r .kind ≡ endKind → ⊥) → rowOk r ≡ true → Worded r
 unfolding rowOk
 ok-worded r ne k =
-    let six : r .kind < 6 = ltb-true _ _ (picked (ltb (r .kind) 6) false-true k .0) in
-    let h : r .kind < 5 = order (r .kind) 5 (λ l. l) (λ l. absurd (ne (omega arith))) in
+    let most : r .kind ≤ endKind = leb-true _ _ (picked (leb (r .kind) endKind) false-true k .0) in
+    let h : r .kind < storedKinds = order (r .kind) storedKinds (λ l. l) (λ l. absurd (ne (omega arith))) in
     record {
       kind = h;
       words = λ j l n. said-cap (valueAt r j) (formOf (r .kind) j) (caps (r .kind) h j l .0) n (ok-fields r k j l);
     }
 
 -- and so is a row of a table
-pub row-worded : (rows : List ℕ) (k i : ℕ) → k < 5 → Worded (rowOf rows k i)
+pub row-worded : (rows : List ℕ) (k i : ℕ) → k < storedKinds → Worded (rowOf rows k i)
 unfolding fieldOf
 row-worded rows k i h =
     record {

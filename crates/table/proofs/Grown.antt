@@ -8,6 +8,7 @@ use lib.Dec.{eqb}
 use borrow.Author.Tests.{eq-eqb, ne-eqb, eqb-true, eqb-false}
 use Rattle.text.specs.Parts.{pick}
 use Rattle.text.proofs.Picks.{cases, order}
+use Rattle.row.specs.Kinds.{storedKinds}
 use Rattle.row.specs.declared.Row.{Row}
 use Rattle.table.specs.Tables.{rowOf, addRow}
 use Rattle.table.specs.Checks.{rowsFrom, kindsFrom, rowsOf}
@@ -18,8 +19,8 @@ use Rattle.table.proofs.RowsOf.{from-count}
 
 -- u has the rows of t, and perhaps more of each kind
 pub record Grown (t u : Table) : Type 0 where
-  pub counts : (k : ℕ) → k < 5 → getD (t .counts) k 0 ≤ getD (u .counts) k 0
-  pub rows : (k i : ℕ) → k < 5 → i < getD (t .counts) k 0 → rowOf (u .rows) k i ≡ rowOf (t .rows) k i
+  pub counts : (k : ℕ) → k < storedKinds → getD (t .counts) k 0 ≤ getD (u .counts) k 0
+  pub rows : (k i : ℕ) → k < storedKinds → i < getD (t .counts) k 0 → rowOf (u .rows) k i ≡ rowOf (t .rows) k i
 
 -- by an accepted row
 pub grown-added : {t : Table} {r : Row} → Follows t r → Grown t (addRow t r)
@@ -29,7 +30,7 @@ grown-added {t} {r} f =
           cases (eqb k (r .kind))
           (λ e. rw (eqb-true k (r .kind) e) (omega (arith, count-same f)))
           (λ e. rw (count-other f k (eqb-false k (r .kind) e)) (omega arith));
-      rows = λ k i h l. others f k i h (λ p q. omega (arith, ap (λ (j : ℕ). getD (t .counts) j 0) p));
+      rows = λ k i h l. others f k i (λ p q. omega (arith, ap (λ (j : ℕ). getD (t .counts) j 0) p));
     }
 
 -- the rows of one kind among others
@@ -76,11 +77,11 @@ from-rows a b k (suc n) i e j h l =
 
 -- tables with the same rows
 module _ (t u : Table) (e : rowsOf t ≡ rowsOf u) where
-  same-kind : (k : ℕ) → k < 5 → rowsFrom (t .rows) k 0 (getD (t .counts) k 0) ≡ rowsFrom (u .rows) k 0 (getD (u .counts) k 0)
-  same-kind k h = sym (of-kinds t k 5 0 (omega arith) (omega arith)) ∙ ap (ofKind k) e ∙ of-kinds u k 5 0 (omega arith) (omega arith)
+  same-kind : (k : ℕ) → k < storedKinds → rowsFrom (t .rows) k 0 (getD (t .counts) k 0) ≡ rowsFrom (u .rows) k 0 (getD (u .counts) k 0)
+  same-kind k h = sym (of-kinds t k storedKinds 0 (omega arith) (omega arith)) ∙ ap (ofKind k) e ∙ of-kinds u k storedKinds 0 (omega arith) (omega arith)
 
   -- have as many of each kind
-  pub same-counts : (k : ℕ) → k < 5 → getD (t .counts) k 0 ≡ getD (u .counts) k 0
+  pub same-counts : (k : ℕ) → k < storedKinds → getD (t .counts) k 0 ≡ getD (u .counts) k 0
   same-counts k h =
       sym (from-count (t .rows) k 0 (getD (t .counts) k 0)) ∙ ap length (same-kind k h) ∙ from-count (u .rows) k 0 (getD (u .counts) k 0)
 

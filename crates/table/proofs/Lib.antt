@@ -3,6 +3,7 @@ pub mod Fields
 pub mod Faults
 pub mod Accepted
 pub mod Stored
+pub mod Totals
 pub mod RowsOf
 pub mod Marks
 pub mod Built
@@ -11,8 +12,17 @@ pub mod Widths
 pub mod Grown
 pub mod WellFormed
 pub mod Accepting
+pub mod Limits
 pub mod Canonical
 pub mod Trips
-pub mod Turns
-pub mod TableTurns
+pub mod Shown
+pub mod Order
+pub mod Refusals
+pub mod Marking
+pub mod Answers
+pub mod Storing
+pub mod Reading
+pub mod RowsLeft
+pub mod Checking
+pub mod Writing
 pub mod Unique

@@ -20,10 +20,10 @@ use Rattle.model.specs.Tables as model
 use Rattle.model.specs.Rows.{hasAct, hasStart, leaves, lastFault}
 use Rattle.table.specs.Tables.{emptyTable, rowOf, addRow, tableOf}
 use Rattle.table.specs.Checks.{rowFault}
-use Rattle.table.specs.Marks.{marksLength, taskMark, kindMark, codelMark, markOf, marked, Marked, Building}
+use Rattle.table.specs.Marks.{taskMark, kindMark, codelMark, noMark, marksLength, markOf, marked, Marked, Building}
 use Rattle.table.specs.declared.Table.{Table}
 use Rattle.table.proofs.Tests.{both, agree, each-same, some-same, each-not}
-use Rattle.table.proofs.Fields.{by-kind, limitOf, below-limit, Worded, Limited}
+use Rattle.table.proofs.Fields.{rowBy, limitOf, below-limit, Worded, Limited}
 use Rattle.table.proofs.Accepted.{Sized, Follows, accepted}
 use Rattle.table.proofs.RowsOf.{someRow}
 use Rattle.table.proofs.Stored.{empty-sized, added-sized, placeOf, stored, others, count-same, count-other}
@@ -57,79 +57,98 @@ marks-set marks m i h =
     (λ e. let q = eqb-true m i e in rw (← q, getD-set-same marks m 1 0 (h q), eq-eqb m m refl) (sym (or-true (marked marks m))))
     (λ e. rw (getD-set-other marks m i 1 0 (λ q. eqb-false m i e (sym q)), e) (sym (or-false (marked marks i))))
 
+-- a row of a kind that makes none of the marks that are asked for
+record Markless (r : Row) : Type 0 where
+  none : markOf r ≡ noMark
+  act : eqb (r .kind) 1 ≡ false
+  codel : eqb (r .kind) 2 ≡ false
+  edge : eqb (r .kind) 3 ≡ false
+
+-- by the kinds that make marks: an activity, a codel, an edge
+by-mark : (P : Row → Type 0) → ((a b c : ℕ) → P (rowBy 1 a b c)) → ((a b c : ℕ) → P (rowBy 2 a b c)) → ((a b c : ℕ) → P (rowBy 3 a b c))
+    → ((r : Row) → Markless r → P r) → (r : Row) → P r
+unfolding markOf
+by-mark P p₁ p₂ p₃ p r =
+    cases (eqb (r .kind) 1)
+    (λ e. at 1 (eqb-true _ _ e) (p₁ (r .a) (r .b) (r .c)))
+    (λ e. cases (eqb (r .kind) 2)
+    (λ f. at 2 (eqb-true _ _ f) (p₂ (r .a) (r .b) (r .c)))
+    (λ f. cases (eqb (r .kind) 3)
+    (λ g. at 3 (eqb-true _ _ g) (p₃ (r .a) (r .b) (r .c)))
+    (λ g. p r (record { none = rw (e, f, g); act = e; codel = f; edge = g }))))
+  where
+    at : (k : ℕ) → r .kind ≡ k → P (rowBy k (r .a) (r .b) (r .c)) → P r
+    at k e q = rw (← e) at q
+
 -- a row within its limits makes one of the marks
-mark-room : (r : Row) → r .kind < 5 → Limited r → markOf r < marksLength
+mark-room : (r : Row) → Limited r → markOf r < marksLength
 unfolding markOf limitOf formOf
 mark-room =
-    by-kind (λ r. Limited r → markOf r < marksLength)
-    (λ a b c l. omega arith)
+    by-mark (λ r. Limited r → markOf r < marksLength)
     (λ a b c l. omega (arith, below-limit 1 0 a refl (l 0 (omega arith))))
     (λ a b c l.
     let n = below-limit 2 0 a refl (l 0 (omega arith)) in
     order b 2 (λ m. rw (lt-ltb _ _ m) (omega arith)) (λ m. rw (le-ltb _ _ m) (omega arith)))
     (λ a b c l. omega (arith, below-limit 3 0 a refl (l 0 (omega arith))))
-    (λ a b c l. omega arith)
+    (λ r n l. omega (arith, n .none))
 
 -- it makes mark i just where it is of kind k and q holds of it
 abbrev Makes : ℕ → ℕ → (Row → Bool) → Row → Type 0
 Makes i k q r = Limited r → eqb (markOf r) i ≡ eqb (r .kind) k and q r
 
 -- the mark of a codel's row is another
-codel-apart : (a b i : ℕ) → (b < 2 → kindMark b a ≡ i → ⊥) → (400 ≡ i → ⊥) → eqb (pick (ltb b 2) (kindMark b a) 400) i ≡ false
-codel-apart a b i h l = order b 2 (λ m. rw (lt-ltb _ _ m) (ne-eqb (kindMark b a) i (h m))) (λ m. rw (le-ltb _ _ m) (ne-eqb 400 i l))
+codel-apart : (a b i : ℕ) → (b < 2 → kindMark b a ≡ i → ⊥) → (noMark ≡ i → ⊥) → eqb (pick (ltb b 2) (kindMark b a) noMark) i ≡ false
+codel-apart a b i h l = order b 2 (λ m. rw (lt-ltb _ _ m) (ne-eqb (kindMark b a) i (h m))) (λ m. rw (le-ltb _ _ m) (ne-eqb noMark i l))
 
-task-mark : (t : ℕ) → t < mostTasks → (r : Row) → r .kind < 5 → Makes (taskMark t) 1 (λ r. eqb (r .a) t) r
+task-mark : (t : ℕ) → t < mostTasks → (r : Row) → Makes (taskMark t) 1 (λ r. eqb (r .a) t) r
 unfolding markOf
 task-mark t h =
-    by-kind (Makes (taskMark t) 1 (λ r. eqb (r .a) t))
-    (λ a b c l. ne-eqb 400 t (λ e. omega arith))
+    by-mark (Makes (taskMark t) 1 (λ r. eqb (r .a) t))
     (λ a b c l. refl)
     (λ a b c l. codel-apart a b t (λ m e. omega arith) (λ e. omega arith))
     (λ a b c l. ne-eqb (codelMark a) t (λ e. omega arith))
-    (λ a b c l. ne-eqb 400 t (λ e. omega arith))
+    (λ r n l. rw (n .none, n .act) (ne-eqb noMark t (λ e. omega arith)))
 
-kind-mark : (z x : ℕ) → z < 2 → x < mostActs → (r : Row) → r .kind < 5 → Makes (kindMark z x) 2 (λ r. eqb (r .a) x and eqb (r .b) z) r
+kind-mark : (z x : ℕ) → z < 2 → x < mostActs → (r : Row) → Makes (kindMark z x) 2 (λ r. eqb (r .a) x and eqb (r .b) z) r
 unfolding markOf limitOf formOf
 kind-mark z x h m =
-    by-kind (Makes i 2 (λ r. eqb (r .a) x and eqb (r .b) z))
-    (λ a b c l. ne-eqb 400 i (λ e. omega arith))
+    by-mark (Makes i 2 (λ r. eqb (r .a) x and eqb (r .b) z))
     (λ a b c l. let n = below-limit 1 0 a refl (l 0 (omega arith)) in ne-eqb a i (λ e. omega arith))
     (λ a b c l.
     let n = below-limit 2 0 a refl (l 0 (omega arith)) in
-    agree (eqb (pick (ltb b 2) (kindMark b a) 400) i) (eqb a x and eqb b z)
+    agree (eqb (pick (ltb b 2) (kindMark b a) noMark) i) (eqb a x and eqb b z)
     (λ e. order b 2
     (λ o.
     let d : kindMark b a ≡ i = eqb-true _ _ (rw (lt-ltb _ _ o) at e) in
     rw (eq-eqb a x (omega arith), eq-eqb b z (omega arith)))
-    (λ o. let d : 400 ≡ i = eqb-true _ _ (rw (le-ltb _ _ o) at e) in absurd (omega arith)))
+    (λ o. let d : noMark ≡ i = eqb-true _ _ (rw (le-ltb _ _ o) at e) in absurd (omega arith)))
     (λ e. let d = both (eqb a x) e in rw (eqb-true a x (d .0), eqb-true b z (d .1), lt-ltb _ _ h) (eq-eqb i i refl)))
     (λ a b c l. ne-eqb (codelMark a) i (λ e. omega arith))
-    (λ a b c l. ne-eqb 400 i (λ e. omega arith))
+    (λ r n l. rw (n .none, n .codel) (ne-eqb noMark i (λ e. omega arith)))
   where
     i : ℕ
     i = kindMark z x
 
-codel-mark : (x : ℕ) → x < mostCodels → (r : Row) → r .kind < 5 → Makes (codelMark x) 3 (λ r. eqb (r .a) x) r
+codel-mark : (x : ℕ) → x < mostCodels → (r : Row) → Makes (codelMark x) 3 (λ r. eqb (r .a) x) r
 unfolding markOf limitOf formOf
 codel-mark x h =
-    by-kind (Makes (codelMark x) 3 (λ r. eqb (r .a) x))
-    (λ a b c l. ne-eqb 400 (codelMark x) (λ e. omega arith))
+    by-mark (Makes (codelMark x) 3 (λ r. eqb (r .a) x))
     (λ a b c l. let n = below-limit 1 0 a refl (l 0 (omega arith)) in ne-eqb a (codelMark x) (λ e. omega arith))
     (λ a b c l. let n = below-limit 2 0 a refl (l 0 (omega arith)) in codel-apart a b (codelMark x) (λ m e. omega arith) (λ e. omega arith))
     (λ a b c l.
     agree (eqb (codelMark a) (codelMark x)) (eqb a x)
     (λ e. let d = eqb-true (codelMark a) (codelMark x) e in eq-eqb a x (omega arith))
     (λ e. rw (eqb-true a x e) (eq-eqb (codelMark x) (codelMark x) refl)))
-    (λ a b c l. ne-eqb 400 (codelMark x) (λ e. omega arith))
+    (λ r n l. rw (n .none, n .edge) (ne-eqb noMark (codelMark x) (λ e. omega arith)))
 
 module _ {t : Table} {r : Row} (f : Follows t r) where
   -- a test of some row of a kind, after an accepted row
-  some-added : (k : ℕ) → k < 5 → (q : Row → Bool) → someRow (addRow t r) k q ≡ someRow t k q or (eqb (r .kind) k and q r)
+  some-added : (k : ℕ) (q : Row → Bool) → someRow (addRow t r) k q ≡ someRow t k q or (eqb (r .kind) k and q r)
   unfolding some
-  some-added k h q =
+  some-added k q =
       let old : (n : ℕ) → ((i : ℕ) → i < n → k ≡ r .kind → i ≡ placeOf t r → ⊥)
       → some n (λ i. q (rowOf (addRow t r .rows) k i)) ≡ some n (λ i. q (rowOf (t .rows) k i)) =
-      λ n ne. some-same (λ i. q (rowOf (addRow t r .rows) k i)) (λ i. q (rowOf (t .rows) k i)) n (λ i l. ap q (others f k i h (ne i l))) in
+      λ n ne. some-same (λ i. q (rowOf (addRow t r .rows) k i)) (λ i. q (rowOf (t .rows) k i)) n (λ i l. ap q (others f k i (ne i l))) in
       cases (eqb (r .kind) k)
       (λ e.
       let z : r .kind ≡ k = eqb-true _ _ e in
@@ -145,17 +164,17 @@ module _ {t : Table} {r : Row} (f : Follows t r) where
   marked-added marks m =
       record {
         size = length-set marks (markOf r) 1 ∙ m .size;
-        tasks = λ x h. still (taskMark x) 1 (λ q. eqb (q .a) x) (omega arith) (m .tasks x h) (task-mark x h r (f .worded .kind));
+        tasks = λ x h. still (taskMark x) 1 (λ q. eqb (q .a) x) (m .tasks x h) (task-mark x h r);
         kinds = λ z x h j.
-            still (kindMark z x) 2 (λ q. eqb (q .a) x and eqb (q .b) z) (omega arith) (m .kinds z x h j) (kind-mark z x h j r (f .worded .kind));
-        codels = λ x h. still (codelMark x) 3 (λ q. eqb (q .a) x) (omega arith) (m .codels x h) (codel-mark x h r (f .worded .kind));
+            still (kindMark z x) 2 (λ q. eqb (q .a) x and eqb (q .b) z) (m .kinds z x h j) (kind-mark z x h j r);
+        codels = λ x h. still (codelMark x) 3 (λ q. eqb (q .a) x) (m .codels x h) (codel-mark x h r);
       }
     where
-      still : (i k : ℕ) (q : Row → Bool) → k < 5 → marked marks i ≡ someRow t k q → Makes i k q r
+      still : (i k : ℕ) (q : Row → Bool) → marked marks i ≡ someRow t k q → Makes i k q r
           → marked (set marks (markOf r) 1) i ≡ someRow (addRow t r) k q
-      still i k q h now makes =
+      still i k q now makes =
           let l = accepted f .limited in
-          marks-set marks (markOf r) i (λ e. rw (m .size) (mark-room r (f .worded .kind) l)) ∙ rw (now, makes l) (sym (some-added k h q))
+          marks-set marks (markOf r) i (λ e. rw (m .size) (mark-room r l)) ∙ rw (now, makes l) (sym (some-added k q))
 
 -- the empty table is being built
 pub building-empty : Building emptyTable (replicate marksLength 0)

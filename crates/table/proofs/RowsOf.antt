@@ -7,8 +7,9 @@ use native.Mathlib.Omega.{arith}
 use native.Mathlib.Numerals.{add-one}
 use lib.ListN.{length, getD, length-append}
 use Rattle.text.proofs.Picks.{order}
+use Rattle.row.specs.Kinds.{storedKinds}
 use Rattle.row.specs.declared.Row.{Row}
-use Rattle.model.specs.Tests.{some}
+use Rattle.model.specs.Tests.{some, sum}
 use Rattle.table.specs.Tables.{emptyTable, totalOf, rowOf, addRow}
 use Rattle.table.specs.Checks.{rowsFrom, kindsFrom, rowsOf}
 use Rattle.table.specs.declared.Table.{Table}
@@ -51,10 +52,10 @@ module _ {t : Table} {r : Row} (f : Follows t r) where
       let z : 0 + placeOf t r ≡ placeOf t r = omega arith in
       rw (count-same f, add-one, from-more, z, stored f)
       (ap (λ (x : List Row). x ++ r ∷ [])
-      (from-same (addRow t r .rows) (t .rows) (r .kind) 0 (placeOf t r) (λ j l m. others f (r .kind) j (f .worded .kind) (λ p q. omega arith))))
+      (from-same (addRow t r .rows) (t .rows) (r .kind) 0 (placeOf t r) (λ j l m. others f (r .kind) j (λ p q. omega arith))))
 
   -- the rows from kind k on
-  kinds-added : (n k : ℕ) → k + n ≡ 5 → k ≤ r .kind → kindsFrom (addRow t r) k n ≡ kindsFrom t k n ++ (r ∷ [])
+  kinds-added : (n k : ℕ) → k + n ≡ storedKinds → k ≤ r .kind → kindsFrom (addRow t r) k n ≡ kindsFrom t k n ++ (r ∷ [])
   unfolding kindsFrom
   kinds-added zero k e l = absurd (omega (arith, f .worded .kind))
   kinds-added (suc n) k e l =
@@ -64,7 +65,7 @@ module _ {t : Table} {r : Row} (f : Follows t r) where
       rw (
         count-other f k ne,
         kinds-added n (k + 1) (omega arith) (omega arith),
-        from-same (addRow t r .rows) (t .rows) k 0 (getD (t .counts) k 0) (λ j a b. others f k j (omega arith) (λ q. absurd (ne q))),
+        from-same (addRow t r .rows) (t .rows) k 0 (getD (t .counts) k 0) (λ j a b. others f k j (λ q. absurd (ne q))),
       )
       (sym (append-assoc (rowsFrom (t .rows) k 0 (getD (t .counts) k 0)) (kindsFrom t (k + 1) n) (r ∷ []))))
       (λ m.
@@ -77,7 +78,7 @@ module _ {t : Table} {r : Row} (f : Follows t r) where
 
   -- it is the last of them
   pub rows-added : rowsOf (addRow t r) ≡ rowsOf t ++ (r ∷ [])
-  rows-added = kinds-added 5 0 refl (omega arith)
+  rows-added = kinds-added storedKinds 0 refl (omega arith)
 
 -- the empty table has none
 pub rows-empty : rowsOf emptyTable ≡ []
@@ -90,7 +91,15 @@ unfolding rowsFrom
 from-count rows k i zero = refl
 from-count rows k i (suc n) = ap suc (from-count rows k (i + 1) n)
 
--- how many rows a table has
+-- how many rows a table has: those from kind k on, with those before
+kinds-count : (t : Table) (n k : ℕ) → length (kindsFrom t k n) + sum k (λ j. getD (t .counts) j 0) ≡ sum (k + n) (λ j. getD (t .counts) j 0)
+unfolding kindsFrom sum
+kinds-count t zero k = let e : k + 0 ≡ k = omega arith in rw e (omega arith)
+kinds-count t (suc n) k =
+    let e : k + suc n ≡ k + 1 + n = omega arith in
+    let next = rw add-one at (kinds-count t n (k + 1)) in
+    rw (e, add-one, length-append, from-count) (omega arith)
+
 pub rows-count : (t : Table) → length (rowsOf t) ≡ totalOf (t .counts)
-unfolding kindsFrom
-rows-count t = simp (length-append, from-count) (omega arith)
+unfolding sum
+rows-count t = omega (arith, kinds-count t storedKinds 0)

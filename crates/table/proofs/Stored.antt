@@ -5,15 +5,13 @@ use mathlib.Core.List.{List, [], _∷_}
 use native.Mathlib.Omega.{arith}
 use lib.ListN.{length, getD, set, length-set, length-replicate, getD-replicate}
 use lib.Seq.{sets, getD-set-same, getD-set-other, length-sets}
-use lib.Dec.{ltb, leb, eqb}
-use borrow.Author.Tests.{lt-ltb, ltb-true, leb-true, eqb-true, eqb-false}
+use lib.Dec.{ltb, eqb}
+use borrow.Author.Tests.{lt-ltb, ltb-true, eqb-true, eqb-false}
 use Rattle.text.proofs.Picks.{cases, order}
-use Rattle.model.specs.Tests.{_implies_, each}
-use Rattle.row.specs.Kinds.{mostOf}
+use Rattle.row.specs.Kinds.{RowKind, kinds, none, storedKinds, mostOf}
 use Rattle.row.specs.declared.Row.{Row}
-use Rattle.table.specs.Tables.{slots, emptyTable, baseOf, slotOf, narrowed, fieldOf, rowOf, addRow}
+use Rattle.table.specs.Tables.{roomIn, mostRows, slots, emptyTable, baseOf, slotOf, narrowed, fieldOf, rowOf, addRow}
 use Rattle.table.specs.declared.Table.{Table}
-use Rattle.table.proofs.Tests.{each-at}
 use Rattle.table.proofs.Fields.{three, valueAt, kept}
 use Rattle.table.proofs.Accepted.{Sized, Follows, accepted}
 
@@ -34,24 +32,58 @@ sets-same (v ∷ vs) l i (suc j) h b =
     let e : i + suc j ≡ suc i + j = omega arith in
     rw e (sets-same vs (set l i v) (suc i) j (omega arith) (omega (arith, length-set l i v)))
 
--- each kind has its own stretch of the rows
-pub stretch : (k : ℕ) → k < 5 → baseOf k + mostOf k ≤ 1360
-unfolding baseOf mostOf each
-stretch k h = leb-true _ _ (each-at 5 (λ i. leb (baseOf i + mostOf i) 1360) refl k h)
+-- the rows of a kind begin where those of the kind before end, and the last end with the rows
+room-next : (xs : List RowKind) (k : ℕ) → roomIn xs (suc k) ≡ roomIn xs k + getD xs k none .most
+room-next [] zero = refl
+room-next [] (suc k) = refl
+room-next (x ∷ xs) zero = omega arith
+room-next (x ∷ xs) (suc k) = omega (arith, room-next xs k)
 
-stretches : (k m : ℕ) → k < m → m < 5 → baseOf k + mostOf k ≤ baseOf m
-unfolding baseOf mostOf each
-stretches k m l h =
-    leb-true _ _
-    (rw (lt-ltb _ _ l) at (each-at 5 (λ i. ltb i m implies leb (baseOf i + mostOf i) (baseOf m))
-    (each-at 5 (λ j. each 5 (λ i. ltb i j implies leb (baseOf i + mostOf i) (baseOf j))) refl m h) k (omega arith)))
+pub base-first : baseOf 0 ≡ 0
+unfolding baseOf
+base-first = refl
 
-apart : (k i m n : ℕ) → k < 5 → m < 5 → i < mostOf k → n < mostOf m → (k ≡ m → i ≡ n → ⊥) → baseOf k + i ≡ baseOf m + n → ⊥
-apart k i m n h l a b ne e =
+pub base-next : (k : ℕ) → baseOf (suc k) ≡ baseOf k + mostOf k
+unfolding baseOf mostOf
+base-next k = room-next kinds k
+
+pub base-last : baseOf storedKinds ≡ mostRows
+unfolding baseOf
+base-last = refl
+
+-- the places by kind, as the code lists them
+abbrev basesFrom : ℕ → List RowKind → ℕ → List ℕ
+basesFrom b xs zero = []
+basesFrom b [] (suc n) = []
+basesFrom b (x ∷ xs) (suc n) = b ∷ basesFrom (b + x .most) xs n
+
+pub base-listed : (k : ℕ) → k < storedKinds → getD (basesFrom 0 kinds storedKinds) k 0 ≡ baseOf k
+unfolding baseOf
+base-listed k h = at kinds 0 storedKinds k h (omega arith) ∙ omega arith
+  where
+    at : (xs : List RowKind) (b n i : ℕ) → i < n → n ≤ length xs → getD (basesFrom b xs n) i 0 ≡ b + roomIn xs i
+    at xs b zero i l m = absurd (omega arith)
+    at [] b (suc n) i l m = absurd (omega arith)
+    at (x ∷ xs) b (suc n) zero l m = omega arith
+    at (x ∷ xs) b (suc n) (suc i) l m = at xs (b + x .most) n i (omega arith) (omega arith) ∙ omega arith
+
+-- so each kind has its own stretch of them
+stretches : (k m : ℕ) → k < m → baseOf k + mostOf k ≤ baseOf m
+stretches k zero l = absurd (omega arith)
+stretches k (suc m) l =
     order k m
-    (λ c. omega (arith, stretches k m c l))
+    (λ a. omega (arith, stretches k m a, base-next m))
+    (λ a. let e : k ≡ m = omega arith in rw e (omega (arith, base-next m)))
+
+pub stretch : (k : ℕ) → k < storedKinds → baseOf k + mostOf k ≤ mostRows
+stretch k h = omega (arith, stretches k storedKinds h, base-last)
+
+apart : (k i m n : ℕ) → i < mostOf k → n < mostOf m → (k ≡ m → i ≡ n → ⊥) → baseOf k + i ≡ baseOf m + n → ⊥
+apart k i m n a b ne e =
+    order k m
+    (λ c. omega (arith, stretches k m c))
     (λ c. order m k
-    (λ d. omega (arith, stretches m k d h))
+    (λ d. omega (arith, stretches m k d))
     (λ d. let q : k ≡ m = omega arith in ne q (omega (arith, ap baseOf q))))
 
 -- the empty table is one that is being built
@@ -59,7 +91,7 @@ pub empty-sized : Sized emptyTable
 empty-sized =
     record {
       size = length-replicate {A = ℕ} slots 0;
-      counted = record { kinds = refl; most = λ k h. rw (getD-replicate {A = ℕ} 5 k 0 0 h) (omega arith) };
+      counted = record { kinds = refl; most = λ k h. rw (getD-replicate {A = ℕ} storedKinds k 0 0 h) (omega arith) };
     }
 
 -- how many rows of its kind stand before it
@@ -90,20 +122,20 @@ module _ {t : Table} {r : Row} (f : Follows t r) where
   pub stored : rowOf (addRow t r .rows) (r .kind) (placeOf t r) ≡ r
   stored = rw (stored-field 0 (omega arith), stored-field 1 (omega arith), stored-field 2 (omega arith))
 
-  pub other-number : (k i j : ℕ) → k < 5 → i < mostOf k → j < 3 → (k ≡ r .kind → i ≡ placeOf t r → ⊥)
+  pub other-number : (k i j : ℕ) → i < mostOf k → j < 3 → (k ≡ r .kind → i ≡ placeOf t r → ⊥)
       → getD (addRow t r .rows) (slotOf k i + j) 0 ≡ getD (t .rows) (slotOf k i + j) 0
   unfolding addRow
-  other-number k i j h b l ne =
-      let a = apart k i (r .kind) (placeOf t r) h (f .worded .kind) b (accepted f .room) ne in
+  other-number k i j b l ne =
+      let a = apart k i (r .kind) (placeOf t r) b (accepted f .room) ne in
       sets-other (numbers r) (t .rows) (slotOf (r .kind) (placeOf t r)) (slotOf k i + j) (λ m d q. a (omega arith))
 
-  pub other-field : (k i j : ℕ) → k < 5 → j < 3 → (k ≡ r .kind → i ≡ placeOf t r → ⊥) → fieldOf (addRow t r .rows) k i j ≡ fieldOf (t .rows) k i j
+  pub other-field : (k i j : ℕ) → j < 3 → (k ≡ r .kind → i ≡ placeOf t r → ⊥) → fieldOf (addRow t r .rows) k i j ≡ fieldOf (t .rows) k i j
   unfolding fieldOf
-  other-field k i j h l ne = cases (ltb i (mostOf k)) (λ e. rw (e, other-number k i j h (ltb-true _ _ e) l ne)) (λ e. rw e)
+  other-field k i j l ne = cases (ltb i (mostOf k)) (λ e. rw (e, other-number k i j (ltb-true _ _ e) l ne)) (λ e. rw e)
 
   -- no other row changes
-  pub others : (k i : ℕ) → k < 5 → (k ≡ r .kind → i ≡ placeOf t r → ⊥) → rowOf (addRow t r .rows) k i ≡ rowOf (t .rows) k i
-  others k i h ne = rw (other-field k i 0 h (omega arith) ne, other-field k i 1 h (omega arith) ne, other-field k i 2 h (omega arith) ne)
+  pub others : (k i : ℕ) → (k ≡ r .kind → i ≡ placeOf t r → ⊥) → rowOf (addRow t r .rows) k i ≡ rowOf (t .rows) k i
+  others k i ne = rw (other-field k i 0 (omega arith) ne, other-field k i 1 (omega arith) ne, other-field k i 2 (omega arith) ne)
 
   -- there is one row more of its kind
   pub count-same : getD (addRow t r .counts) (r .kind) 0 ≡ placeOf t r + 1

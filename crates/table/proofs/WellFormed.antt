@@ -7,18 +7,17 @@ use native.Mathlib.Omega.{arith}
 use lib.ListN.{getD, getD-replicate}
 use lib.Dec.{ltb, leb, eqb}
 use borrow.Author.Tests.{lt-ltb, ltb-true, eq-eqb, eqb-true, eqb-false}
-use Rattle.text.specs.Parts.{pick}
 use Rattle.text.proofs.Picks.{cases, order}
+use Rattle.row.specs.Kinds.{storedKinds}
 use Rattle.row.specs.declared.Row.{Row}
 use Rattle.model.specs.Tests.{_and_, each, after, accepted}
 use Rattle.model.specs.Tables.{EdgeRow, MutexRow, known, isKind, targetOf}
-use Rattle.model.specs.Tables as model
-use Rattle.model.specs.Rows.{taskFault, actFault, codelFault, edgeFault, mutexFault, edgeBelow, mutexBelow, targetOk}
+use Rattle.model.specs.Rows.{edgeBelow, mutexBelow, targetOk}
 use Rattle.model.specs.Rows.{hasAct, hasStart, leaves, lastFault, wellformed}
 use Rattle.model.specs.declared.Place.{Place}
 use Rattle.model.specs.declared.Place.the-variants.{Ether, Codel}
 use Rattle.table.specs.Tables.{emptyTable, fieldOf, rowOf, addRow, tableOf}
-use Rattle.table.specs.Checks.{kindFault, rowFault, inPlace, rowsOf, checkTable, Passes}
+use Rattle.table.specs.Checks.{faultAt, kindFault, rowFault, inPlace, rowsOf, checkTable, Passes}
 use Rattle.table.specs.declared.Table.{Table}
 use Rattle.table.proofs.Tests.{needed, each-all, each-same, some-same, after-same}
 use Rattle.table.proofs.Fields.{by-kind}
@@ -29,18 +28,9 @@ use Rattle.table.proofs.RowsOf.{someRow}
 use Rattle.table.proofs.Grown.{Grown, grown-added, same-counts, same-grown}
 use Rattle.table.proofs.Built.{Built, done, more, built-all, table-whole, fine-accepts}
 
--- the refusal of a row behind the first n rows of its kind
-unfoldable pub faultAt : model.Table → ℕ → Row → ℕ
-faultAt K n r =
-    pick (eqb (r .kind) 0) (taskFault n (r .a) (r .b))
-    (pick (eqb (r .kind) 1) (actFault K n (r .a))
-    (pick (eqb (r .kind) 2) (codelFault K n (r .a) (r .b) (r .c))
-    (pick (eqb (r .kind) 3) (edgeFault K n (r .a) (targetOf (r .b)) (eqb (r .c) 1))
-    (mutexFault K n (r .a) (r .b)))))
-
 -- each row of a table is accepted behind those before it
 unfoldable pub RowsFine : Table → Type 0
-RowsFine t = (k i : ℕ) → k < 5 → i < getD (t .counts) k 0 → faultAt (tableOf t) i (rowOf (t .rows) k i) ≡ 0
+RowsFine t = (k i : ℕ) → k < storedKinds → i < getD (t .counts) k 0 → faultAt (tableOf t) i (rowOf (t .rows) k i) ≡ 0
 
 -- an edge and a mutex as the rules see them
 abbrev edgeOf : Row → EdgeRow
@@ -93,7 +83,7 @@ module _ (t u : Table) (owned : Owned t) (n : ℕ) where
   abbrev Stays : Row → Type 0
   Stays r = Behind t u (r .kind) n → faultAt (tableOf t) n r ≡ 0 → faultAt (tableOf u) n r ≡ 0
 
-  pub stays : (r : Row) → r .kind < 5 → Stays r
+  pub stays : (r : Row) → r .kind < storedKinds → Stays r
   unfolding faultAt tableOf Owned
   stays =
       by-kind Stays
@@ -143,16 +133,9 @@ module _ (t u : Table) (owned : Owned t) (n : ℕ) where
       ))
 
 -- a table that has grown has what decides on its rows
-grown-behind : {t u : Table} → Grown t u → (k n : ℕ) → k < 5 → n ≤ getD (t .counts) k 0 → Behind t u k n
+grown-behind : {t u : Table} → Grown t u → (k n : ℕ) → k < storedKinds → n ≤ getD (t .counts) k 0 → Behind t u k n
 grown-behind g k n h l =
     record { counts = λ m a. g .counts m (omega arith); rows = λ m i a. g .rows m i (omega arith); own = λ i a. g .rows k i h (omega arith) }
-
--- the own refusal of a row is that behind all rows of its kind
-pub own-fault : (t : Table) (r : Row) → r .kind < 5 → kindFault (tableOf t) r ≡ faultAt (tableOf t) (placeOf t r) r
-unfolding kindFault faultAt tableOf
-own-fault t =
-    by-kind (λ r. kindFault (tableOf t) r ≡ faultAt (tableOf t) (placeOf t r) r)
-    (λ a b c. refl) (λ a b c. refl) (λ a b c. refl) (λ a b c. refl) (λ a b c. refl)
 
 -- where each row is accepted, each codel's activity is there
 pub fine-owned : (t : Table) → RowsFine t → Owned t
@@ -162,7 +145,7 @@ fine-owned t s i h =
     ltb-true _ _ (codel-passes (tableOf t) i (r .a) (r .b) (r .c) (s 2 i (omega arith) h) .names)
 
 -- its rows are accepted in a table that grew from it
-fine-grown : (t u : Table) → Grown t u → RowsFine t → (k i : ℕ) → k < 5 → i < getD (t .counts) k 0
+fine-grown : (t u : Table) → Grown t u → RowsFine t → (k i : ℕ) → k < storedKinds → i < getD (t .counts) k 0
     → faultAt (tableOf u) i (rowOf (u .rows) k i) ≡ 0
 unfolding RowsFine
 fine-grown t u g s k i h l =
@@ -171,7 +154,7 @@ fine-grown t u g s k i h l =
 
 -- and so is a row that is added
 fine-added : {t : Table} {r : Row} → Follows t r → RowsFine t → RowsFine (addRow t r)
-unfolding RowsFine rowFault
+unfolding RowsFine rowFault kindFault
 fine-added {t} {r} f o k i h l =
     let g = grown-added f in
     order i (getD (t .counts) k 0)
@@ -182,7 +165,7 @@ fine-added {t} {r} f o k i h l =
     let c = ap (λ (j : ℕ). getD (t .counts) j 0) q in
     let d = ap (λ (j : ℕ). getD (addRow t r .counts) j 0) q in
     let p : i ≡ placeOf t r = omega (arith, count-same f) in
-    let own = rw (own-fault t r (f .worded .kind)) at (needed (inPlace (t .counts) (r .kind)) 1 (f .fine) .1) in
+    let own = needed (inPlace (t .counts) (r .kind)) 1 (f .fine) .1 in
     let before = grown-behind g (r .kind) (placeOf t r) (f .worded .kind) (omega arith) in
     rw (q, p, stored f) (stays t (addRow t r) (fine-owned t o) (placeOf t r) r (f .worded .kind) before own))
 
@@ -192,7 +175,7 @@ fine-built (more f b) o = fine-built b (fine-added f o)
 
 fine-empty : RowsFine emptyTable
 unfolding RowsFine
-fine-empty k i h l = absurd (omega (arith, getD-replicate {A = ℕ} 5 k 0 0 h))
+fine-empty k i h l = absurd (omega (arith, getD-replicate {A = ℕ} storedKinds k 0 0 h))
 
 -- tables with the same rows: what holds of the one holds of the other
 module _ (t u : Table) (e : rowsOf t ≡ rowsOf u) where
@@ -200,7 +183,7 @@ module _ (t u : Table) (e : rowsOf t ≡ rowsOf u) where
   unfolding RowsFine
   fine-same s k i h l = fine-grown t u (same-grown t u e) s k i h (omega (arith, same-counts t u e k h))
 
-  some-row : (k : ℕ) → k < 5 → (q : Row → Bool) → someRow u k q ≡ someRow t k q
+  some-row : (k : ℕ) → k < storedKinds → (q : Row → Bool) → someRow u k q ≡ someRow t k q
   some-row k h q =
       let rows = same-grown t u e .rows k in
       rw (← same-counts t u e k h)
@@ -220,7 +203,7 @@ module _ (t u : Table) (e : rowsOf t ≡ rowsOf u) where
       )
 
 -- each kind of a table whose every row is accepted
-fines : (t : Table) → RowsFine t → (k : ℕ) → k < 5
+fines : (t : Table) → RowsFine t → (k : ℕ) → k < storedKinds
     → each (getD (t .counts) k 0) (λ i. accepted (faultAt (tableOf t) i (rowOf (t .rows) k i))) ≡ true
 unfolding RowsFine
 fines t s k h =

@@ -4,6 +4,7 @@ use mathlib.Core.Path.{_≡_, refl}
 use mathlib.Core.List.{List, [], _∷_}
 use mathlib.Core.Bool.{true, false}
 use native.Mathlib.Omega.{arith}
+use native.Mathlib.Nat.{mul-le-mul-left}
 use lib.ListN.{length, getD, length-append}
 use lib.Dec.{eqb}
 use borrow.Author.Tests.{ne-eqb}
@@ -12,12 +13,13 @@ use Rattle.text.specs.Number.{digits}
 use Rattle.text.specs.Fields.{etherValue, etherWord}
 use Rattle.text.proofs.Numbers.{digits-short}
 use Rattle.text.proofs.Picks.{order}
-use Rattle.row.specs.Kinds.{kindWords, modeWords, wordOf, mostOf, formOf, aTarget}
+use Rattle.row.specs.Kinds.{storedKinds, kindWords, modeWords, wordOf, mostOf, formOf, aTarget}
 use Rattle.row.specs.Row.{rowLine, rowText}
 use Rattle.row.specs.declared.Row.{Row}
 use Rattle.row.proofs.Tables.{word-within}
 use Rattle.model.specs.Tests.{sum}
-use Rattle.table.specs.Tables.{totalOf, addRow}
+use Rattle.model.proofs.Sums.{sum-le}
+use Rattle.table.specs.Tables.{mostRows, addRow}
 use Rattle.table.specs.Checks.{accepts, rowsOf, checkTable, Passes}
 use Rattle.table.specs.Texts.{longest, endRow, textOf, tableText}
 use Rattle.table.specs.declared.Table.{Table}
@@ -25,6 +27,7 @@ use Rattle.table.proofs.Fields.{by-kind, limitOf, within, by-limit, bel
 use Rattle.table.proofs.Accepted.{Sized, Follows, accepted}
 use Rattle.table.proofs.Stored.{empty-sized, count-same, count-other}
 use Rattle.table.proofs.RowsOf.{rows-count}
+use Rattle.table.proofs.Totals.{few-counted}
 use Rattle.table.proofs.Built.{Built, done, more, built-sized, built-all, table-whole, fine-accepts}
 
 -- the most bytes of a row, its newline among them
@@ -43,7 +46,7 @@ target-short b h =
     (λ f e. rw e (omega arith))
 
 -- a row within its limits is no longer
-row-short : (r : Row) → r .kind < 5 → Limited r → length (rowText r) ≤ wideOf (r .kind)
+row-short : (r : Row) → r .kind < storedKinds → Limited r → length (rowText r) ≤ wideOf (r .kind)
 unfolding rowLine wordOf kindWords modeWords formOf limitOf wideOf
 row-short =
     by-kind (λ r. Limited r → length (rowText r) ≤ wideOf (r .kind))
@@ -74,7 +77,7 @@ end-short n h = let p = digits-short n 4 h (omega arith) in simp length-append (
 
 -- so many bytes for so many rows of each kind
 weight : List ℕ → ℕ
-weight counts = sum 5 (λ k. wideOf k * getD counts k 0)
+weight counts = sum storedKinds (λ k. wideOf k * getD counts k 0)
 
 -- one row more of kind m
 module _ (old new : List ℕ) (m : ℕ) (same : getD new m 0 ≡ getD old m 0 + 1) (other : (k : ℕ) → (k ≡ m → ⊥) → getD new k 0 ≡ getD old k 0) where
@@ -93,7 +96,7 @@ module _ (old new : List ℕ) (m : ℕ) (same : getD new m 0 ≡ getD old m 0 + 
 
 weight-added : {t : Table} {r : Row} → Follows t r → weight (addRow t r .counts) ≡ weight (t .counts) + wideOf (r .kind)
 unfolding weight
-weight-added {t} {r} f = weighed (t .counts) (addRow t r .counts) (r .kind) (count-same f) (count-other f) 5 (f .worded .kind)
+weight-added {t} {r} f = weighed (t .counts) (addRow t r .counts) (r .kind) (count-same f) (count-other f) storedKinds (f .worded .kind)
 
 -- the text of rows that take t to u
 built-short : {t u : Table} {rs : List Row} (n : ℕ) → Built t rs u
@@ -105,28 +108,23 @@ built-short n (more {r = r} {rs = rs} f b) =
     rw (length-append (rowText r) (textOf n rs)) (omega (arith, built-short n b, weight-added f))
 
 -- there are only so many rows of each kind
-most-rows : (t : Table) → Sized t → (totalOf (t .counts) ≤ 1360) × (weight (t .counts) ≤ 25456)
-unfolding mostOf weight wideOf sum
-most-rows t s =
-    let a = s .counted .most 0 (omega arith) in
-    let b = s .counted .most 1 (omega arith) in
-    let c = s .counted .most 2 (omega arith) in
-    let d = s .counted .most 3 (omega arith) in
-    let e = s .counted .most 4 (omega arith) in
-    (omega arith, omega arith)
+most-weight : (t : Table) → Sized t → weight (t .counts) ≤ sum storedKinds (λ k. wideOf k * mostOf k)
+unfolding weight
+most-weight t s =
+    sum-le storedKinds (λ k. wideOf k * getD (t .counts) k 0) (λ k. wideOf k * mostOf k) (λ k h. mul-le-mul-left (wideOf k) (s .counted .most k h))
 
--- an accepted table has at most 1360 rows
-pub few-rows : (t u : Table) → checkTable t ≡ accepts u → length (rowsOf t) ≤ 1360
+-- so of all kinds of an accepted table
+pub few-rows : (t u : Table) → checkTable t ≡ accepts u → length (rowsOf t) ≤ mostRows
 few-rows t u e =
     let b = table-whole t u e .built in
-    rw (← built-all b, rows-count) (most-rows u (built-sized empty-sized b) .0)
+    rw (← built-all b, rows-count) (few-counted (u .counts) (built-sized empty-sized b .counted))
 
 -- the text of an accepted table is short enough to be read
 pub text-short : (t : Table) → Passes t → length (tableText t) ≤ longest
-unfolding tableText
+unfolding tableText mostOf wideOf sum
 text-short t e =
     let q = fine-accepts (checkTable t) e in
     let b = table-whole t (checkTable t .table) q .built in
     let m = few-rows t (checkTable t .table) q in
-    let w = most-rows (checkTable t .table) (built-sized empty-sized b) .1 in
+    let w = most-weight (checkTable t .table) (built-sized empty-sized b) in
     omega (arith, built-short (length (rowsOf t)) b, end-short (length (rowsOf t)) (omega arith))

@@ -6,7 +6,7 @@ use mathlib.Core.Path.{_≡_}
 use lib.ListN.{getD}
 use lib.Dec.{ltb, eqb}
 use Rattle.text.specs.Parts.{pick}
-use Rattle.row.specs.Kinds.{mostOf}
+use Rattle.row.specs.Kinds.{storedKinds, mostOf}
 use Rattle.row.specs.declared.Row.{Row}
 use Rattle.model.specs.Tables.{targetOf}
 use Rattle.model.specs.Tests.{_implies_, each, need}
@@ -22,19 +22,22 @@ use Rattle.table.specs.declared.Verdict.the-variants as verdict
 
 -- 2: "row out of its place": there are rows of a later kind
 unfoldable pub inPlace : List ℕ → ℕ → Bool
-inPlace counts k = each 5 (λ j. ltb k j implies eqb (getD counts j 0) 0)
+inPlace counts k = each storedKinds (λ j. ltb k j implies eqb (getD counts j 0) 0)
 
--- the row's own refusal behind the rows of K
-unfoldable pub kindFault : model.Table → Row → ℕ
-kindFault K r =
-    pick (eqb (r .kind) 0) (taskFault (K .ntasks) (r .a) (r .b))
-    (pick (eqb (r .kind) 1) (actFault K (K .nacts) (r .a))
-    (pick (eqb (r .kind) 2) (codelFault K (K .ncodels) (r .a) (r .b) (r .c))
-    (pick (eqb (r .kind) 3) (edgeFault K (K .nedges) (r .a) (targetOf (r .b)) (eqb (r .c) 1))
-    (mutexFault K (K .nmutex) (r .a) (r .b)))))
+-- the row's own refusal behind the first n rows of its kind, and behind all of them
+unfoldable pub faultAt : model.Table → ℕ → Row → ℕ
+faultAt K n r =
+    pick (eqb (r .kind) 0) (taskFault n (r .a) (r .b))
+    (pick (eqb (r .kind) 1) (actFault K n (r .a))
+    (pick (eqb (r .kind) 2) (codelFault K n (r .a) (r .b) (r .c))
+    (pick (eqb (r .kind) 3) (edgeFault K n (r .a) (targetOf (r .b)) (eqb (r .c) 1))
+    (mutexFault K n (r .a) (r .b)))))
+
+unfoldable pub kindFault : Table → Row → ℕ
+kindFault t r = faultAt (tableOf t) (getD (t .counts) (r .kind) 0) r
 
 unfoldable pub rowFault : Table → Row → ℕ
-rowFault t r = need (inPlace (t .counts) (r .kind)) 2 (kindFault (tableOf t) r)
+rowFault t r = need (inPlace (t .counts) (r .kind)) 2 (kindFault t r)
 
 -- a given row that there is no room for is 3, "one row too many of its kind": nothing is stored of it, so no other test comes before
 unfoldable pub givenFault : Table → Row → ℕ
@@ -93,7 +96,7 @@ kindsFrom t k zero = []
 kindsFrom t k (suc n) = rowsFrom (t .rows) k 0 (getD (t .counts) k 0) ++ kindsFrom t (k + 1) n
 
 abbrev pub rowsOf : Table → List Row
-rowsOf t = kindsFrom t 0 5
+rowsOf t = kindsFrom t 0 storedKinds
 
 -- a given table, checked as its text would be: the answer, and the table that its rows make
 unfoldable pub checkTable : Table → Said

@@ -15,26 +15,28 @@ use Rattle.model.specs.Tables as model
 use Rattle.table.specs.Tables.{slots, Counted, tableOf}
 use Rattle.table.specs.declared.Table.{Table}
 
--- how many marks there are; the last is never asked for
-abbrev pub marksLength : ℕ
-marksLength = 401
-
--- the marks of a task, of an activity's codel kind, of a codel
+-- the marks of a task, of an activity's codel kind (start or stop), of a codel; the mark that is never asked for; how many there are
 abbrev pub taskMark : ℕ → ℕ
 taskMark t = t
 
 abbrev pub kindMark : ℕ → ℕ → ℕ
-kindMark z a = 16 + 64 * z + a
+kindMark z a = mostTasks + mostActs * z + a
 
 abbrev pub codelMark : ℕ → ℕ
-codelMark c = 144 + c
+codelMark c = mostTasks + 2 * mostActs + c
+
+abbrev pub noMark : ℕ
+noMark = codelMark mostCodels
+
+abbrev pub marksLength : ℕ
+marksLength = noMark + 1
 
 -- the mark that a row makes
 unfoldable pub markOf : Row → ℕ
 markOf r =
     pick (eqb (r .kind) 1) (taskMark (r .a))
-    (pick (eqb (r .kind) 2) (pick (ltb (r .b) 2) (kindMark (r .b) (r .a)) 400)
-    (pick (eqb (r .kind) 3) (codelMark (r .a)) 400))
+    (pick (eqb (r .kind) 2) (pick (ltb (r .b) 2) (kindMark (r .b) (r .a)) noMark)
+    (pick (eqb (r .kind) 3) (codelMark (r .a)) noMark))
 
 abbrev pub marked : List ℕ → ℕ → Bool
 marked marks i = eqb (getD marks i 0) 1

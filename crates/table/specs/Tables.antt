@@ -1,5 +1,5 @@
--- The table by value: its rows by kind, three numbers a row; and what the rules see of it.
-use Prim.Native.Nat.{ℕ, _+_, _*_, _≤_, _<_, min}
+-- The table by value: its rows by kind, a number for each field; and what the rules see of it.
+use Prim.Native.Nat.{ℕ, zero, suc, _+_, _*_, _≤_, _<_, min}
 use mathlib.Core.List.{List, [], _∷_}
 use mathlib.Core.Bool.{Bool}
 use mathlib.Core.Path.{_≡_}
@@ -8,38 +8,47 @@ use lib.Seq.{sets}
 use lib.Dec.{ltb, leb, eqb}
 use Rattle.text.specs.Parts.{pick}
 use Rattle.text.specs.Fields.{etherValue}
-use Rattle.row.specs.Kinds.{mostOf, formOf, noField, aKind, aMode}
+use Rattle.row.specs.Kinds.{RowKind, kinds, storedKinds, mostFields, mostOf, formOf, noField, aKind, aMode}
 use Rattle.row.specs.declared.Row.{Row}
 use Rattle.model.specs.Tables.{targetOf}
-use Rattle.model.specs.Tests.{_and_, _or_, each}
+use Rattle.model.specs.Tests.{_and_, _or_, each, sum}
 use Rattle.model.specs.Tables as model
 use Rattle.table.specs.declared.Table.{Table}
 
--- how many rows of the five kinds there may be in all, three numbers each
+-- how many rows of the first k kinds there may be
+abbrev pub roomIn : List RowKind → ℕ → ℕ
+roomIn xs zero = 0
+roomIn [] (suc k) = 0
+roomIn (x ∷ xs) (suc k) = x .most + roomIn xs k
+
+-- how many rows a table may have, and how many numbers they take
+abbrev pub mostRows : ℕ
+mostRows = roomIn kinds storedKinds
+
 abbrev pub slots : ℕ
-slots = 4080
+slots = mostFields * mostRows
 
 abbrev pub made : List ℕ → List ℕ → Table
 made counts rows = record { counts = counts; rows = rows }
 
 abbrev pub emptyTable : Table
-emptyTable = made (replicate 5 0) (replicate slots 0)
+emptyTable = made (replicate storedKinds 0) (replicate slots 0)
 
--- how many rows of a kind stand before the first of this kind
+-- how many rows of other kinds there is room for before those of a kind
 unfoldable pub baseOf : ℕ → ℕ
-baseOf k = getD (0 ∷ 16 ∷ 80 ∷ 336 ∷ 848 ∷ []) k 0
+baseOf k = roomIn kinds k
 
--- where the three numbers of row i of a kind stand
+-- where the numbers of row i of a kind stand
 abbrev pub slotOf : ℕ → ℕ → ℕ
-slotOf k i = 3 * (baseOf k + i)
+slotOf k i = mostFields * (baseOf k + i)
 
 -- no kind has more rows than there may be; how many there are in all
 pub record Counted (counts : List ℕ) : Type 0 where
-  pub kinds : length counts ≡ 5
-  pub most : (k : ℕ) → k < 5 → getD counts k 0 ≤ mostOf k
+  pub kinds : length counts ≡ storedKinds
+  pub most : (k : ℕ) → k < storedKinds → getD counts k 0 ≤ mostOf k
 
 abbrev pub totalOf : List ℕ → ℕ
-totalOf counts = getD counts 0 0 + getD counts 1 0 + getD counts 2 0 + getD counts 3 0 + getD counts 4 0
+totalOf counts = sum storedKinds (λ k. getD counts k 0)
 
 -- a field's value in 32 bits, and back: the largest stands for `ether`
 abbrev pub etherSlot : ℕ
@@ -81,9 +90,9 @@ numberOk t k i j =
 -- "So one table has one text.": of the tables that say the same rows, the one that is read from their text
 unfoldable pub canonical : Table → Bool
 canonical t =
-    eqb (length (t .counts)) 5
+    eqb (length (t .counts)) storedKinds
     and eqb (length (t .rows)) slots
-    and each 5 (λ k. each (mostOf k) (λ i. each 3 (numberOk t k i)))
+    and each storedKinds (λ k. each (mostOf k) (λ i. each mostFields (numberOk t k i)))
 
 -- one row more
 unfoldable pub addRow : Table → Row → Table

@@ -6,12 +6,12 @@ ghost use lib.Seq.{sets};
 ghost use lib.Dec.{eqb, leb, ltb};
 ghost use Rattle.text.specs.Parts.{partsFrom};
 ghost use Rattle.text.specs.Fields.{etherValue};
-ghost use Rattle.row.specs.Kinds.{mostOf};
+ghost use Rattle.row.specs.Kinds.{storedKinds, mostFields, mostOf};
 ghost use Rattle.model.specs.Tables.{targetOf};
 ghost use Rattle.model.specs.Tests.{_and_, _or_, each, after};
-ghost use Rattle.model.specs.Limits.{inRange, mostTasks, mostActs, mostCodels};
+ghost use Rattle.model.specs.Limits.{mostTasks, mostActs, mostCodels};
 ghost use Rattle.model.specs.Rows.{taskFault, actFault, codelFault, edgeFault, mutexFault, lastFault, targetOk};
-ghost use Rattle.table.specs.Tables.{slots, made, emptyTable, narrowed, shown, fieldOf, rowOf, pairBelow, addRow, tableOf, totalOf};
+ghost use Rattle.table.specs.Tables.{mostRows, slots, made, emptyTable, narrowed, shown, slotOf, fieldOf, rowOf, pairBelow, addRow, tableOf, totalOf};
 ghost use Rattle.table.specs.Checks.{inPlace, rowFault, kindFault, verdictOf, numberOf, numbersOf, says, refused, closed, checkTable, Passes};
 ghost use Rattle.table.specs.Marks.{marksLength, kindMark, markOf, marked, Building};
 ghost use Rattle.table.specs.Texts.{readTable, faultBehind, endRow, tableText, written, writeTable, wroteNumbers, writtenOver};
@@ -21,19 +21,31 @@ use row::Row;
 // "Length over 32,768 bytes comes first": the longest text that is read.
 pub const LONGEST: usize = 32768;
 
-// How many numbers the rows of a table take, three a row.
-const SLOTS: usize = 4080;
+// How many rows of other kinds there is room for before the activities, the codels, the edges and the mutexes; before the tasks none.
+pub const ACT_BASE: usize = model::MOST_TASKS;
 
-// How many rows of other kinds there is room for before the rows of a kind.
-const BASES: [usize; 5] = [0, 16, 80, 336, 848];
+pub const CODEL_BASE: usize = ACT_BASE + model::MOST_ACTS;
+
+pub const EDGE_BASE: usize = CODEL_BASE + model::MOST_CODELS;
+
+pub const MUTEX_BASE: usize = EDGE_BASE + model::MOST_EDGES;
+
+// The same by kind.
+const BASES: [usize; row::STORED] = [0, ACT_BASE, CODEL_BASE, EDGE_BASE, MUTEX_BASE];
+
+// How many rows a table may have.
+pub const MOST_ROWS: usize = MUTEX_BASE + model::MOST_MUTEXES;
+
+// How many numbers the rows of a table take.
+pub const SLOTS: usize = row::FIELDS * MOST_ROWS;
 
 // `ether` among the stored numbers.
 pub const ETHER_SLOT: u32 = 4294967295;
 
-// A table by value: how many rows of each kind (tasks, activities, codels, edges, mutexes), and the rows, three numbers each. In a table that
-// was read the unused numbers are 0.
+// A table by value: how many rows of each kind (tasks, activities, codels, edges, mutexes), and the rows, a number for each field. In a table
+// that was read the unused numbers are 0.
 pub struct Table {
-    pub counts: [usize; 5],
+    pub counts: [usize; row::STORED],
     pub rows: [u32; SLOTS],
 }
 
@@ -61,24 +73,16 @@ enum Verdict {
     Refused(u64),
 }
 
+// Where the marks of the activities' starts, then stops, and of the codels' edges begin, behind those of the tasks' activities; the last mark
+// is never asked for.
+const STARTS: usize = model::MOST_TASKS;
+
+const EDGES: usize = STARTS + 2 * model::MOST_ACTS;
+
+const NO_MARK: usize = EDGES + model::MOST_CODELS;
+
 // How many marks stand beside the rows while they are checked.
-const MARKS: usize = 401;
-
-// Where the marks of the activities' starts, then stops, and of the codels' edges begin; the last mark is never asked for.
-const STARTS: usize = 16;
-
-const EDGES: usize = 144;
-
-const NO_MARK: usize = 400;
-
-fn in_range(n: u64) -> bool
-    ensures { λ r. ⌜ r ≡ inRange n ⌝ }
-{
-    if n < 1 {
-        return false;
-    }
-    n <= model::MOST_TICKS
-}
+const MARKS: usize = NO_MARK + 1;
 
 // A value as it is stored.
 fn narrow(v: u64) -> u32
@@ -119,21 +123,29 @@ fn show(form: usize, x: u32) -> u64
     x as u64
 }
 
+// Where the numbers of row i of a kind stand.
+fn slot(k: usize, i: usize) -> usize
+    requires { ⌜ (k < storedKinds) × (i < mostOf k) ⌝ }
+    ensures { λ r. ⌜ (r ≡ slotOf k i) × (r + mostFields ≤ slots) ⌝ }
+{
+    row::FIELDS * (BASES[k] + i)
+}
+
 // Field j of row i of a kind.
 fn value_at(rows: &[u32], k: usize, i: usize, j: usize) -> u64
-    requires { ⌜ (length (now rows) ≡ slots) × (k < 5) × (j < 3) ⌝ }
+    requires { ⌜ (length (now rows) ≡ slots) × (k < storedKinds) × (j < mostFields) ⌝ }
     ensures { λ r. ⌜ r ≡ fieldOf (now (rows .entry)) k i j ⌝ }
 {
     if row::most(k) <= i {
         return 0;
     }
-    let p = 3 * (BASES[k] + i) + j;
+    let p = slot(k, i) + j;
     show(row::form(k, j), rows[p])
 }
 
 // Row i of a kind.
 fn row_at(rows: &[u32], k: usize, i: usize) -> Row
-    requires { ⌜ (length (now rows) ≡ slots) × (k < 5) ⌝ }
+    requires { ⌜ (length (now rows) ≡ slots) × (k < storedKinds) ⌝ }
     ensures { λ r. ⌜ (r ≡ rowOf (now (rows .entry)) k i) × (r .b ≤ etherValue) ⌝ }
 {
     Row {
@@ -144,12 +156,12 @@ fn row_at(rows: &[u32], k: usize, i: usize) -> Row
     }
 }
 
-// 2: are there rows of a later kind?
-fn in_place(counts: [usize; 5], k: usize) -> bool
+// 2: are there no rows of a later kind?
+fn in_place(counts: [usize; row::STORED], k: usize) -> bool
     ensures { λ r. ⌜ r ≡ inPlace counts k ⌝ }
 {
     let mut j = 0;
-    while j < 5 {
+    while j < row::STORED {
         if j <= k {
             j += 1;
             continue;
@@ -162,16 +174,16 @@ fn in_place(counts: [usize; 5], k: usize) -> bool
     true
 }
 
-fn task_fault(counts: [usize; 5], r: Row) -> u64
+fn task_fault(counts: [usize; row::STORED], r: Row) -> u64
     ensures { λ f. ⌜ f ≡ taskFault (getD counts 0 0) (r .a) (r .b) ⌝ }
 {
     if row::most(0) <= counts[0] {
         return 3;
     }
-    if !in_range(r.a) {
+    if !model::in_range(r.a) {
         return 3;
     }
-    if !in_range(r.b) {
+    if !model::in_range(r.b) {
         return 3;
     }
     0
@@ -179,7 +191,7 @@ fn task_fault(counts: [usize; 5], r: Row) -> u64
 
 // Is the first field of a row no smaller than that of the row before it?
 fn follows(rows: &[u32], k: usize, n: usize, r: Row) -> bool
-    requires { ⌜ (length (now rows) ≡ slots) × (k < 5) ⌝ }
+    requires { ⌜ (length (now rows) ≡ slots) × (k < storedKinds) ⌝ }
     ensures { λ b. ⌜ b ≡ after n (λ i. leb (fieldOf (now (rows .entry)) k i 0) (r .a)) ⌝ }
 {
     if n == 0 {
@@ -190,7 +202,7 @@ fn follows(rows: &[u32], k: usize, n: usize, r: Row) -> bool
 
 // Does the pair of a row's first two fields rise over that of the row before it?
 fn rises(rows: &[u32], k: usize, n: usize, r: Row) -> bool
-    requires { ⌜ (length (now rows) ≡ slots) × (k < 5) ⌝ }
+    requires { ⌜ (length (now rows) ≡ slots) × (k < storedKinds) ⌝ }
     ensures { λ b. ⌜ b ≡ after n (λ i. pairBelow (fieldOf (now (rows .entry)) k i 0) (fieldOf (now (rows .entry)) k i 1) (r .a) (r .b)) ⌝ }
 {
     if n == 0 {
@@ -206,7 +218,7 @@ fn rises(rows: &[u32], k: usize, n: usize, r: Row) -> bool
     value_at(rows, k, n - 1, 1) < r.b
 }
 
-fn act_fault(rows: &[u32], counts: [usize; 5], r: Row) -> u64
+fn act_fault(rows: &[u32], counts: [usize; row::STORED], r: Row) -> u64
     requires { ⌜ length (now rows) ≡ slots ⌝ }
     ensures { λ f. ⌜ f ≡ actFault (tableOf (made counts (now (rows .entry)))) (getD counts 1 0) (r .a) ⌝ }
 {
@@ -231,11 +243,11 @@ fn is_second(marks: &[u8], r: Row) -> bool
     if 2 <= r.b {
         return false;
     }
-    let p = STARTS + 64 * (r.b as usize) + (r.a as usize);
+    let p = STARTS + model::MOST_ACTS * (r.b as usize) + (r.a as usize);
     marks[p] == 1
 }
 
-fn codel_fault(rows: &[u32], counts: [usize; 5], marks: &[u8], r: Row) -> u64
+fn codel_fault(rows: &[u32], counts: [usize; row::STORED], marks: &[u8], r: Row) -> u64
     requires { ⌜ Building (made counts (now rows)) (now marks) ⌝ }
     ensures { λ f. ⌜ f ≡ codelFault (tableOf (made counts (now (rows .entry)))) (getD counts 2 0) (r .a) (r .b) (r .c) ⌝ }
 {
@@ -246,7 +258,7 @@ fn codel_fault(rows: &[u32], counts: [usize; 5], marks: &[u8], r: Row) -> u64
     if row::most(2) <= n {
         return 3;
     }
-    if !in_range(r.c) {
+    if !model::in_range(r.c) {
         return 3;
     }
     if (counts[1] as u64) <= r.a {
@@ -259,7 +271,7 @@ fn codel_fault(rows: &[u32], counts: [usize; 5], marks: &[u8], r: Row) -> u64
 }
 
 // 5: does an edge stay in its activity, lead to no stop, and, where it leads to ether, run?
-fn may_lead(rows: &[u32], counts: [usize; 5], r: Row) -> bool
+fn may_lead(rows: &[u32], counts: [usize; row::STORED], r: Row) -> bool
     requires { ⌜ length (now rows) ≡ slots ⌝ }
     ensures { λ b. ⌜ b ≡ targetOk (tableOf (made counts (now (rows .entry)))) (r .a) (targetOf (r .b)) (eqb (r .c) 1) ⌝ }
 {
@@ -284,7 +296,7 @@ fn is_known(codels: u64, v: u64) -> bool
     v < codels
 }
 
-fn edge_fault(rows: &[u32], counts: [usize; 5], r: Row) -> u64
+fn edge_fault(rows: &[u32], counts: [usize; row::STORED], r: Row) -> u64
     requires { ⌜ (length (now rows) ≡ slots) × (r .b ≤ etherValue) ⌝ }
     ensures { λ f. ⌜ f ≡ edgeFault (tableOf (made counts (now (rows .entry)))) (getD counts 3 0) (r .a) (targetOf (r .b)) (eqb (r .c) 1) ⌝ }
 {
@@ -317,7 +329,7 @@ fn task_behind(rows: &[u32], c: usize) -> u64
     value_at(rows, 1, a as usize, 0)
 }
 
-fn mutex_fault(rows: &[u32], counts: [usize; 5], r: Row) -> u64
+fn mutex_fault(rows: &[u32], counts: [usize; row::STORED], r: Row) -> u64
     requires { ⌜ length (now rows) ≡ slots ⌝ }
     ensures { λ f. ⌜ f ≡ mutexFault (tableOf (made counts (now (rows .entry)))) (getD counts 4 0) (r .a) (r .b) ⌝ }
 {
@@ -345,9 +357,9 @@ fn mutex_fault(rows: &[u32], counts: [usize; 5], r: Row) -> u64
 }
 
 // The refusal of a row by its kind, or 0.
-fn kind_fault(rows: &[u32], counts: [usize; 5], marks: &[u8], r: Row) -> u64
-    requires { ⌜ Building (made counts (now rows)) (now marks) × (r .b ≤ etherValue) ⌝ }
-    ensures { λ f. ⌜ f ≡ kindFault (tableOf (made counts (now (rows .entry)))) r ⌝ }
+fn kind_fault(rows: &[u32], counts: [usize; row::STORED], marks: &[u8], r: Row) -> u64
+    requires { ⌜ Building (made counts (now rows)) (now marks) × (r .b ≤ etherValue) × (r .kind < storedKinds) ⌝ }
+    ensures { λ f. ⌜ f ≡ kindFault (made counts (now (rows .entry))) r ⌝ }
 {
     if r.kind == 0 {
         return task_fault(counts, r);
@@ -365,8 +377,8 @@ fn kind_fault(rows: &[u32], counts: [usize; 5], marks: &[u8], r: Row) -> u64
 }
 
 // The check of a row behind the rows of a table.
-fn check_row(rows: &[u32], counts: [usize; 5], marks: &[u8], r: Row) -> Verdict
-    requires { ⌜ Building (made counts (now rows)) (now marks) × (r .b ≤ etherValue) ⌝ }
+fn check_row(rows: &[u32], counts: [usize; row::STORED], marks: &[u8], r: Row) -> Verdict
+    requires { ⌜ Building (made counts (now rows)) (now marks) × (r .b ≤ etherValue) × (r .kind < storedKinds) ⌝ }
     ensures { λ v. ⌜ v ≡ verdictOf (rowFault (made counts (now (rows .entry))) r) ⌝ }
 {
     if !in_place(counts, r.kind) {
@@ -399,7 +411,7 @@ fn mark_of(r: Row) -> usize
     }
     if r.kind == 2 {
         if r.b < 2 {
-            return STARTS + 64 * (r.b as usize) + (r.a as usize);
+            return STARTS + model::MOST_ACTS * (r.b as usize) + (r.a as usize);
         }
         return NO_MARK;
     }
@@ -410,13 +422,18 @@ fn mark_of(r: Row) -> usize
 }
 
 // Stores an accepted row and its mark, and answers the counts with it.
-fn store_row(rows: &mut [u32], counts: [usize; 5], marks: &mut [u8], r: Row) -> [usize; 5]
-    requires { ⌜ (length (now rows) ≡ slots) × (length (now marks) ≡ marksLength) × (r .kind < 5) × (getD counts (r .kind) 0 < mostOf (r .kind)) × (r .kind ≡ 1 → r .a < mostTasks) × (r .kind ≡ 2 → r .a < mostActs) × (r .kind ≡ 3 → r .a < mostCodels) ⌝ }
+fn store_row(
+    rows: &mut [u32],
+    counts: [usize; row::STORED],
+    marks: &mut [u8],
+    r: Row,
+) -> [usize; row::STORED]
+    requires { ⌜ (length (now rows) ≡ slots) × (length (now marks) ≡ marksLength) × (r .kind < storedKinds) × (getD counts (r .kind) 0 < mostOf (r .kind)) × (r .kind ≡ 1 → r .a < mostTasks) × (r .kind ≡ 2 → r .a < mostActs) × (r .kind ≡ 3 → r .a < mostCodels) ⌝ }
     ensures { λ c. ⌜ (made c (now (rows .exit)) ≡ addRow (made counts (now (rows .entry))) r) × (now (marks .exit) ≡ set (now (marks .entry)) (markOf r) 1) ⌝ }
 {
     let k = r.kind;
     let n = counts[k];
-    let p = 3 * (BASES[k] + n);
+    let p = slot(k, n);
     rows[p] = narrow(r.a);
     rows[p + 1] = narrow(r.b);
     rows[p + 2] = narrow(r.c);
@@ -443,7 +460,7 @@ fn all_marked(marks: &[u8], from: usize, n: usize) -> bool
 }
 
 // 7 where something is missing after the last row, else 0.
-fn last_fault(rows: &[u32], counts: [usize; 5], marks: &[u8]) -> u64
+fn last_fault(rows: &[u32], counts: [usize; row::STORED], marks: &[u8]) -> u64
     requires { ⌜ Building (made counts (now rows)) (now marks) ⌝ }
     ensures { λ f. ⌜ f ≡ lastFault (tableOf (made counts (now (rows .entry)))) ⌝ }
 {
@@ -467,7 +484,7 @@ fn empty() -> Table
     ensures { λ t. ⌜ t ≡ emptyTable ⌝ }
 {
     Table {
-        counts: [0usize; 5],
+        counts: [0usize; row::STORED],
         rows: [0u32; SLOTS],
     }
 }
@@ -483,7 +500,7 @@ fn refuse(n: u64, line: usize) -> Read
 }
 
 // The table of these rows, closed at a line.
-fn close(rows: [u32; SLOTS], counts: [usize; 5], marks: [u8; MARKS], line: usize) -> Read
+fn close(rows: [u32; SLOTS], counts: [usize; row::STORED], marks: [u8; MARKS], line: usize) -> Read
     requires { ⌜ Building (made counts rows) marks ⌝ }
     ensures { λ r. ⌜ says r ≡ closed (made counts rows) line ⌝ }
 {
@@ -523,7 +540,7 @@ pub fn read_table(s: &[u8]) -> Read
     if LONGEST < s.len() {
         return refuse(3, 0);
     }
-    let mut counts = [0usize; 5];
+    let mut counts = [0usize; row::STORED];
     let mut rows = [0u32; SLOTS];
     let mut marks = [0u8; MARKS];
     let mut at = 0;
@@ -566,13 +583,13 @@ pub fn check_table(t: Table) -> Read
 {
     let given = t.rows;
     let have = t.counts;
-    let mut counts = [0usize; 5];
+    let mut counts = [0usize; row::STORED];
     let mut rows = [0u32; SLOTS];
     let mut marks = [0u8; MARKS];
     let mut k = 0;
     let mut i = 0;
     let mut line = 1;
-    while k < 5 {
+    while k < row::STORED {
         if have[k] <= i {
             k += 1;
             i = 0;
@@ -606,11 +623,17 @@ fn end_row(n: usize) -> Row
 }
 
 // How many rows an accepted table has.
-fn total(counts: [usize; 5]) -> usize
-    requires { ⌜ totalOf counts ≤ 1360 ⌝ }
+fn total(counts: [usize; row::STORED]) -> usize
+    requires { ⌜ totalOf counts ≤ mostRows ⌝ }
     ensures { λ n. ⌜ n ≡ totalOf counts ⌝ }
 {
-    counts[0] + counts[1] + counts[2] + counts[3] + counts[4]
+    let mut n = 0;
+    let mut k = 0;
+    while k < row::STORED {
+        n += counts[k];
+        k += 1;
+    }
+    n
 }
 
 // How long the text of an accepted table is.
@@ -623,7 +646,7 @@ fn text_width(t: Table) -> usize
     let mut width = 0;
     let mut k = 0;
     let mut i = 0;
-    while k < 5 {
+    while k < row::STORED {
         if have[k] <= i {
             k += 1;
             i = 0;
@@ -645,7 +668,7 @@ fn put_table(buf: &mut [u8], t: Table) -> usize
     let mut at = 0;
     let mut k = 0;
     let mut i = 0;
-    while k < 5 {
+    while k < row::STORED {
         if have[k] <= i {
             k += 1;
             i = 0;

@@ -11,7 +11,7 @@ use text::Field;
 use text::Word;
 
 // How much room there is for a text written again.
-const TEXT: usize = 32768;
+const TEXT: usize = table::LONGEST;
 
 // Writes the first n bytes.
 fn write(out: &[u8], n: usize) {
@@ -188,10 +188,17 @@ fn show_cases(s: &[u8]) {
     }
 }
 
+// Where the rows of activities, codels and edges begin.
+const ACT_ROWS: usize = row::FIELDS * table::ACT_BASE;
+
+const CODEL_ROWS: usize = row::FIELDS * table::CODEL_BASE;
+
+const EDGE_ROWS: usize = row::FIELDS * table::EDGE_BASE;
+
 // The table with one of its numbers changed, given to the writer.
 fn show_row(note: &[u8], t: Table, slot: usize, v: u32) {
     let mut u = t;
-    if slot < 4080 {
+    if slot < table::SLOTS {
         u.rows[slot] = v;
     }
     say(note);
@@ -204,7 +211,7 @@ fn show_row(note: &[u8], t: Table, slot: usize, v: u32) {
 // The table with another number of rows of a kind, given to the writer.
 fn show_count(note: &[u8], t: Table, kind: usize, n: usize) {
     let mut u = t;
-    if kind < 5 {
+    if kind < row::STORED {
         u.counts[kind] = n;
     }
     say(note);
@@ -222,14 +229,14 @@ fn show_spoiled() {
     show_row(b"K given to the writer", t, 0, 10);
     show_row(b"period 0", t, 0, 0);
     show_row(b"keep above the most ticks", t, 1, 1000000001);
-    show_row(b"keep ether", t, 1, 4294967295);
-    show_row(b"an activity of task 1", t, 48, 1);
-    show_row(b"limit 0", t, 242, 0);
-    show_row(b"the start made a stop", t, 241, 1);
-    show_row(b"an unused row changed", t, 243, 7);
-    show_row(b"the edge to its own codel", t, 1009, 0);
-    show_row(b"the edge to a codel past the last", t, 1009, 1);
-    show_row(b"a pause to ether", t, 1010, 1);
+    show_row(b"keep ether", t, 1, table::ETHER_SLOT);
+    show_row(b"an activity of task 1", t, ACT_ROWS, 1);
+    show_row(b"limit 0", t, CODEL_ROWS + 2, 0);
+    show_row(b"the start made a stop", t, CODEL_ROWS + 1, 1);
+    show_row(b"an unused row changed", t, CODEL_ROWS + row::FIELDS, 7);
+    show_row(b"the edge to its own codel", t, EDGE_ROWS + 1, 0);
+    show_row(b"the edge to a codel past the last", t, EDGE_ROWS + 1, 1);
+    show_row(b"a pause to ether", t, EDGE_ROWS + 2, 1);
     show_count(b"no task", t, 0, 0);
     show_count(b"a second task, all zeros", t, 0, 2);
     show_count(b"a second activity without start", t, 1, 2);
@@ -272,26 +279,38 @@ fn edge_row(e: u32) -> Numbers {
     }
 }
 
+// How many rows of the largest table come before the activities, the codels, the edges and the mutexes.
+const TASKS: u32 = table::ACT_BASE as u32;
+
+const ACTS: u32 = table::CODEL_BASE as u32;
+
+const CODELS: u32 = table::EDGE_BASE as u32;
+
+const EDGES: u32 = table::MUTEX_BASE as u32;
+
+// How many rows it has.
+const ROWS: u32 = table::MOST_ROWS as u32;
+
 // Row n of the largest table, counted through all kinds: four activities a task, four codels an activity, two edges a codel, and a conflict
 // of each of the first 32 codels with 16 codels of another task.
 fn largest_row(n: u32) -> Numbers {
-    if n < 16 {
+    if n < TASKS {
         return Numbers { a: 10, b: 5, c: 0 };
     }
-    if n < 80 {
+    if n < ACTS {
         return Numbers {
-            a: (n - 16) / 4,
+            a: (n - TASKS) / 4,
             b: 0,
             c: 0,
         };
     }
-    if n < 336 {
-        return codel_row(n - 80);
+    if n < CODELS {
+        return codel_row(n - ACTS);
     }
-    if n < 848 {
-        return edge_row(n - 336);
+    if n < EDGES {
+        return edge_row(n - CODELS);
     }
-    let m = n - 848;
+    let m = n - EDGES;
     Numbers {
         a: m / 16,
         b: 64 + m % 16,
@@ -301,12 +320,18 @@ fn largest_row(n: u32) -> Numbers {
 
 // The table with as many rows of each kind as there may be.
 fn largest() -> Table {
-    let counts = [16usize, 64, 256, 512, 512];
-    let mut rows = [0u32; 4080];
+    let counts = [
+        model::MOST_TASKS,
+        model::MOST_ACTS,
+        model::MOST_CODELS,
+        model::MOST_EDGES,
+        model::MOST_MUTEXES,
+    ];
+    let mut rows = [0u32; table::SLOTS];
     let mut n = 0;
-    while n < 1360 {
+    while n < ROWS {
         let r = largest_row(n);
-        let p = 3 * (n as usize);
+        let p = row::FIELDS * (n as usize);
         rows[p] = r.a;
         rows[p + 1] = r.b;
         rows[p + 2] = r.c;
@@ -319,12 +344,17 @@ fn largest() -> Table {
 fn show_full() {
     let t = largest();
     show_row(b"the largest table", t, 0, 10);
-    show_row(b"a codel kind past main is written as main", t, 244, 5);
-    show_count(b"a seventeenth task given", t, 0, 17);
-    show_count(b"a sixty-fifth activity given", t, 1, 65);
-    show_count(b"a codel past 256 given", t, 2, 257);
-    show_count(b"an edge past 512 given", t, 3, 513);
-    show_count(b"a mutex past 512 given", t, 4, 513);
+    show_row(
+        b"a codel kind past main is written as main",
+        t,
+        CODEL_ROWS + row::FIELDS + 1,
+        5,
+    );
+    show_count(b"a seventeenth task given", t, 0, model::MOST_TASKS + 1);
+    show_count(b"a sixty-fifth activity given", t, 1, model::MOST_ACTS + 1);
+    show_count(b"a codel past 256 given", t, 2, model::MOST_CODELS + 1);
+    show_count(b"an edge past 512 given", t, 3, model::MOST_EDGES + 1);
+    show_count(b"a mutex past 512 given", t, 4, model::MOST_MUTEXES + 1);
 }
 
 fn main() {

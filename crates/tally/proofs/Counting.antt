@@ -6,6 +6,7 @@ use mathlib.Core.Bool.{true, false}
 use native.Mathlib.Omega.{arith}
 use native.Mathlib.Numerals.{add-one}
 use Rattle.model.specs.Tests.{one, sum}
+use Rattle.model.specs.Limits.{mostTasks}
 use Rattle.model.specs.States.{taskAt}
 use Rattle.model.specs.Tables.{Table}
 use Rattle.model.specs.Cycles.{managing, lineOf}
@@ -27,7 +28,7 @@ pub sum-known : (K : Table) (s : State) (c : Tally) (n a b d : ℕ) → a ≡ ma
 sum-known K s c n a b d p q r = rw (p, q, r)
 
 -- there are at most sixteen tasks
-pub few-tasks : {rows index : List ℕ} → Prepared rows index → (m : ℕ) → m ≡ tableIn rows index .ntasks → m ≤ 16
+pub few-tasks : {rows index : List ℕ} → Prepared rows index → (m : ℕ) → m ≡ tableIn rows index .ntasks → m ≤ mostTasks
 few-tasks p m e = rw e (most-tasks p)
 
 -- how many tasks manage, counted up to a task

@@ -4,6 +4,7 @@ use mathlib.Core.Bool.{Bool, true, false}
 use mathlib.Core.Path.{_≡_, refl}
 use native.Mathlib.Omega.{arith}
 use native.Mathlib.Nat.{add-zero}
+use Rattle.text.specs.declared.Set.{Set}
 use Rattle.model.specs.Tables.{Table}
 use Rattle.model.specs.States.{taskAt}
 use Rattle.model.specs.Logs.{isWait}
@@ -36,7 +37,7 @@ module _ (K : Table) (s : State) where
     unfolding verdict
     wait-counts d = simp add-zero
 
-    pub sm-counts : (t n r : ℕ) → afterSm c ≡ tallied K s (Sm t n r) c
+    pub sm-counts : (t : ℕ) (n r : Set) → afterSm c ≡ tallied K s (Sm t n r) c
     unfolding verdict
     sm-counts t n r = simp add-zero
 

@@ -4,6 +4,14 @@ pub mod Words
 pub mod Puts
 pub mod Digits
 pub mod Numbers
+pub mod Bits
+pub mod Members
 pub mod Sets
-pub mod Turns
+pub mod Spelling
+pub mod Laying
+pub mod Decimals
+pub mod Seeking
+pub mod Halves
+pub mod Alike
+pub mod Fields
 pub mod Unique

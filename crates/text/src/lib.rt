@@ -7,7 +7,7 @@ ghost use lib.Dec.{leb};
 ghost use Rattle.text.specs.Parts.{firstAt, fieldAt};
 ghost use Rattle.text.specs.Digits.{glyphOf, valueOf, scan, pad};
 ghost use Rattle.text.specs.Number.{readNumber, widthOf, digits};
-ghost use Rattle.text.specs.Set.{readSet, setDigits, setText};
+ghost use Rattle.text.specs.Set.{bit, member, readSet, setText, bitsBetween, between};
 ghost use Rattle.text.specs.Words.{sameList, wordIn, wordAt};
 ghost use Rattle.text.specs.Fields.{readTarget};
 ghost use Rattle.text.specs.Put.{Put};
@@ -18,8 +18,13 @@ pub const TAB: u8 = 9;
 // The byte that ends a line.
 pub const NEWLINE: u8 = 10;
 
-// How many digits a set has.
-const SET_DIGITS: usize = 16;
+// How many members a set has room for: each is below this number.
+const SET_ROOM: usize = 128;
+
+// How many members, and how many digits, each half of a set has.
+const HALF_ROOM: usize = 64;
+
+const HALF_DIGITS: usize = 16;
 
 // "Numbers are decimal, one to ten digits": the most that a number of a table or a log has.
 pub const MOST_DIGITS: usize = 10;
@@ -30,9 +35,21 @@ pub const ETHER: u64 = 10000000000;
 // No number of more digits is read, so that each fits.
 const WIDEST: usize = 19;
 
-// What a field says as a number or a set: its value, or bad form.
+// What a field says as a number: its value, or bad form.
 pub enum Number {
     Is(u64),
+    Bad,
+}
+
+// A set: its first members are the bits of the low half, counted from the low end, and those from 64 on are the bits of the high half.
+pub struct Set {
+    pub low: u64,
+    pub high: u64,
+}
+
+// What a field says as a set: which one, or bad form.
+pub enum SetField {
+    Is(Set),
     Bad,
 }
 
@@ -139,15 +156,104 @@ fn past_zeros(s: &[u8]) -> usize
     i
 }
 
-// What a field says as a set.
-pub fn read_set(s: &[u8]) -> Number
-    ensures { λ r. ⌜ r ≡ readSet setDigits (now (s .entry)) ⌝ }
+// What the digits of a half say.
+fn read_half(s: &[u8]) -> Number
+    requires { ⌜ length (now s) ≤ 16 ⌝ }
+    ensures { λ r. ⌜ r ≡ scan 16 0 (now (s .entry)) ⌝ }
 {
-    if s.len() != SET_DIGITS {
-        return Number::Bad;
-    }
     let i = past_zeros(s);
     read_digits(&s[i..], 16)
+}
+
+// How much a number is above another; 0 where it is not.
+fn above(n: usize, m: usize) -> usize
+    ensures { λ r. ⌜ r ≡ n - m ⌝ }
+{
+    if n < m {
+        return 0;
+    }
+    n - m
+}
+
+// What a field says as a set of so many digits, at most thirty-two: the last sixteen are its low half.
+pub fn read_set(s: &[u8], digits: usize) -> SetField
+    ensures { λ r. ⌜ r ≡ readSet digits (now (s .entry)) ⌝ }
+{
+    if s.len() != digits {
+        return SetField::Bad;
+    }
+    if HALF_DIGITS + HALF_DIGITS < digits {
+        return SetField::Bad;
+    }
+    let cut = above(digits, HALF_DIGITS);
+    let Number::Is(low) = read_half(&s[cut..]) else {
+        return SetField::Bad;
+    };
+    let Number::Is(high) = read_half(&s[..cut]) else {
+        return SetField::Bad;
+    };
+    SetField::Is(Set {
+        low: low,
+        high: high,
+    })
+}
+
+// Is bit i of a half set?
+fn has_bit(n: u64, i: usize) -> bool
+    requires { ⌜ i < 64 ⌝ }
+    ensures { λ r. ⌜ r ≡ bit n i ⌝ }
+{
+    (n >> i) % 2 == 1
+}
+
+// Is i a member of a set?
+pub fn has_member(set: Set, i: usize) -> bool
+    ensures { λ r. ⌜ r ≡ member set i ⌝ }
+{
+    if i < HALF_ROOM {
+        return has_bit(set.low, i);
+    }
+    if i < SET_ROOM {
+        return has_bit(set.high, i - HALF_ROOM);
+    }
+    false
+}
+
+// Two to the k.
+fn power(k: usize) -> u64
+    requires { ⌜ k < 64 ⌝ }
+    ensures { λ r. ⌜ r ≡ 2 ^ k ⌝ }
+{
+    1u64 << k
+}
+
+// Does each bit of a half that is set stand from one place on and before another?
+fn bits_between(n: u64, from: usize, to: usize) -> bool
+    ensures { λ r. ⌜ r ≡ bitsBetween n from to ⌝ }
+{
+    if n == 0 {
+        return true;
+    }
+    if HALF_ROOM <= from {
+        return false;
+    }
+    if n % power(from) != 0 {
+        return false;
+    }
+    if HALF_ROOM <= to {
+        return true;
+    }
+    n < power(to)
+}
+
+// Is each member of a set at least one number and below another?
+pub fn is_between(set: Set, from: usize, to: usize) -> bool
+    ensures { λ r. ⌜ r ≡ between set from to ⌝ }
+{
+    if !bits_between(set.low, from, to) {
+        return false;
+    }
+    bits_between(set.high, above(from, HALF_ROOM), above(to, HALF_ROOM))
 }
 
 // How many digits a number has.
@@ -205,15 +311,17 @@ pub fn put_number(buf: &mut [u8], at: usize, n: u64) -> usize
     at + w
 }
 
-// Writes a set at a place, as `put_number` does a number.
-pub fn put_set(buf: &mut [u8], at: usize, n: u64) -> usize
-    ensures { λ r. ⌜ Put (now (buf .entry)) at (setText setDigits n) r (now (buf .exit)) ⌝ }
+// Writes a set over so many digits at a place, as `put_number` does a number.
+pub fn put_set(buf: &mut [u8], at: usize, digits: usize, set: Set) -> usize
+    ensures { λ r. ⌜ Put (now (buf .entry)) at (setText digits set) r (now (buf .exit)) ⌝ }
 {
-    if !fits(buf.len(), at, SET_DIGITS) {
+    if !fits(buf.len(), at, digits) {
         return at;
     }
-    put_digits(buf, at, 16, SET_DIGITS, n);
-    at + SET_DIGITS
+    let cut = above(digits, HALF_DIGITS);
+    put_digits(buf, at, 16, cut, set.high);
+    put_digits(buf, at + cut, 16, digits - cut, set.low);
+    at + digits
 }
 
 // Writes bytes at a place, as `put_number` does a number.
@@ -258,16 +366,6 @@ pub fn read_target(s: &[u8]) -> Number
     read_number(s, MOST_DIGITS)
 }
 
-// How many of so many places have three more behind them.
-fn with_three(n: usize) -> usize
-    ensures { λ r. ⌜ r ≡ n - 3 ⌝ }
-{
-    if n < 3 {
-        return 0;
-    }
-    n - 3
-}
-
 // The place of the first b at or after a place, or the end, byte after byte.
 fn byte_behind(s: &[u8], at: usize, b: u8) -> usize
     ensures { λ r. ⌜ r ≡ firstAt (now (s .entry)) at b ⌝ }
@@ -286,7 +384,7 @@ fn byte_behind(s: &[u8], at: usize, b: u8) -> usize
 pub fn next_byte(s: &[u8], at: usize, b: u8) -> usize
     ensures { λ r. ⌜ r ≡ firstAt (now (s .entry)) at b ⌝ }
 {
-    let most = with_three(s.len());
+    let most = above(s.len(), 3);
     let mut i = at;
     while i < most {
         if s[i] == b {

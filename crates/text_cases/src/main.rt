@@ -1,14 +1,18 @@
 // Runs the text layer on the lines of standard input, one case a line, and writes what each gives:
-//   number NOTE MOST FIELD    the number that the field says, with at most so many digits
-//   set NOTE FIELD            the set that the field says, as a number
-//   digits NOTE SET           the number of a set, written in decimal, and its width
-//   hex NOTE NUMBER           a number written as a set
-//   word NOTE FIELD           which word of the set below the field is, and that word written again
-//   place NOTE ..             where field 3 of this line starts and ends
+//   number NOTE MOST FIELD       the number that the field says, with at most so many digits
+//   set NOTE DIGITS FIELD        the set that the field says over so many digits: its low half and its high half
+//   digits NOTE DIGITS SET       the low half of a set, written in decimal, and its width
+//   hex NOTE DIGITS LOW HIGH     the set of two halves, written over so many digits
+//   member NOTE DIGITS SET I     whether I is a member of the set
+//   between NOTE DIGITS SET I J  whether each member of the set is at least I and below J
+//   word NOTE FIELD              which word of the set below the field is, and that word written again
+//   place NOTE ..                where field 3 of this line starts and ends
 // The fields of a case are parted by tabs; its answer is the note, a tab and the result.
 use libc::STDOUT_FILENO;
 use text::Field;
 use text::Number;
+use text::Set;
+use text::SetField;
 use text::Word;
 
 // The longest answer.
@@ -22,34 +26,91 @@ fn part(line: &[u8], i: usize) -> &[u8] {
     }
 }
 
-fn put_result(out: &mut [u8], at: usize, r: Number) -> usize {
-    match r {
-        Number::Is(n) => text::put_number(out, at, n),
-        Number::Bad => text::put_bytes(out, at, b"bad"),
-    }
-}
-
 fn number_case(line: &[u8], out: &mut [u8], at: usize) -> usize {
     let Number::Is(most) = text::read_number(part(line, 2), 2) else {
         return text::put_bytes(out, at, b"no case");
     };
-    put_result(out, at, text::read_number(part(line, 3), most as usize))
+    let Number::Is(n) = text::read_number(part(line, 3), most as usize) else {
+        return text::put_bytes(out, at, b"bad");
+    };
+    text::put_number(out, at, n)
+}
+
+// The set of a case.
+fn set_of(line: &[u8]) -> SetField {
+    let Number::Is(digits) = text::read_number(part(line, 2), 2) else {
+        return SetField::Bad;
+    };
+    text::read_set(part(line, 3), digits as usize)
+}
+
+fn set_case(line: &[u8], out: &mut [u8], at: usize) -> usize {
+    let SetField::Is(n) = set_of(line) else {
+        return text::put_bytes(out, at, b"bad");
+    };
+    let p = text::put_number(out, at, n.low);
+    let q = text::put_bytes(out, p, b" ");
+    text::put_number(out, q, n.high)
 }
 
 fn digits_case(line: &[u8], out: &mut [u8], at: usize) -> usize {
-    let Number::Is(n) = text::read_set(part(line, 2)) else {
+    let SetField::Is(n) = set_of(line) else {
         return text::put_bytes(out, at, b"no case");
     };
-    let p = text::put_number(out, at, n);
+    let p = text::put_number(out, at, n.low);
     let q = text::put_bytes(out, p, b" of width ");
-    text::put_number(out, q, text::width(n) as u64)
+    text::put_number(out, q, text::width(n.low) as u64)
 }
 
 fn hex_case(line: &[u8], out: &mut [u8], at: usize) -> usize {
-    let Number::Is(n) = text::read_number(part(line, 2), 19) else {
+    let Number::Is(digits) = text::read_number(part(line, 2), 2) else {
         return text::put_bytes(out, at, b"no case");
     };
-    text::put_set(out, at, n)
+    let Number::Is(low) = text::read_number(part(line, 3), 19) else {
+        return text::put_bytes(out, at, b"no case");
+    };
+    let Number::Is(high) = text::read_number(part(line, 4), 19) else {
+        return text::put_bytes(out, at, b"no case");
+    };
+    text::put_set(
+        out,
+        at,
+        digits as usize,
+        Set {
+            low: low,
+            high: high,
+        },
+    )
+}
+
+fn put_answer(out: &mut [u8], at: usize, yes: bool) -> usize {
+    if yes {
+        return text::put_bytes(out, at, b"yes");
+    }
+    text::put_bytes(out, at, b"no")
+}
+
+fn member_case(line: &[u8], out: &mut [u8], at: usize) -> usize {
+    let SetField::Is(n) = set_of(line) else {
+        return text::put_bytes(out, at, b"no case");
+    };
+    let Number::Is(i) = text::read_number(part(line, 4), 19) else {
+        return text::put_bytes(out, at, b"no case");
+    };
+    put_answer(out, at, text::has_member(n, i as usize))
+}
+
+fn between_case(line: &[u8], out: &mut [u8], at: usize) -> usize {
+    let SetField::Is(n) = set_of(line) else {
+        return text::put_bytes(out, at, b"no case");
+    };
+    let Number::Is(from) = text::read_number(part(line, 4), 19) else {
+        return text::put_bytes(out, at, b"no case");
+    };
+    let Number::Is(to) = text::read_number(part(line, 5), 19) else {
+        return text::put_bytes(out, at, b"no case");
+    };
+    put_answer(out, at, text::is_between(n, from as usize, to as usize))
 }
 
 fn word_case(line: &[u8], out: &mut [u8], at: usize) -> usize {
@@ -72,15 +133,20 @@ fn place_case(line: &[u8], out: &mut [u8], at: usize) -> usize {
 }
 
 fn put_case(line: &[u8], out: &mut [u8], at: usize) -> usize {
-    let Word::Is(k) = text::word_in(b"number\tset\tdigits\thex\tword\tplace", part(line, 0)) else {
+    let Word::Is(k) = text::word_in(
+        b"number\tset\tdigits\thex\tmember\tbetween\tword\tplace",
+        part(line, 0),
+    ) else {
         return text::put_bytes(out, at, b"no case");
     };
     match k {
         0 => number_case(line, out, at),
-        1 => put_result(out, at, text::read_set(part(line, 2))),
+        1 => set_case(line, out, at),
         2 => digits_case(line, out, at),
         3 => hex_case(line, out, at),
-        4 => word_case(line, out, at),
+        4 => member_case(line, out, at),
+        5 => between_case(line, out, at),
+        6 => word_case(line, out, at),
         _ => place_case(line, out, at),
     }
 }

@@ -8,8 +8,9 @@ use native.Mathlib.Numerals.{add-one}
 use lib.Dec.{leb, leb→le}
 use lib.ListN.{length, length-map}
 use borrow.Author.Tests.{le-leb, lt-leb, not-true, not-false}
-use Rattle.model.specs.Tests.{_and_, _or_, each, some, need}
-use Rattle.model.specs.Limits.{mostTicks, inRange, ceiling}
+use Rattle.model.specs.Tests.{_and_, _or_, each, some}
+use Rattle.text.specs.Fields.{etherValue}
+use Rattle.model.specs.Limits.{mostTasks, mostActs, mostTicks, inRange, ceiling}
 use Rattle.model.specs.Tables.{Table, safe}
 use Rattle.model.specs.States.{taskAt, actAt}
 use Rattle.model.specs.Rules.{waitRefusal}
@@ -17,19 +18,12 @@ use Rattle.model.specs.declared.Act.{Act}
 use Rattle.model.specs.declared.State.{State}
 use Rattle.model.specs.declared.Place.the-variants.{Ether, Codel}
 use Rattle.model.specs.declared.Holder.the-variants.{Manager, Activity}
-use Rattle.model.proofs.Tests.{T-true, true-T, and-r, some-mk}
+use Rattle.model.proofs.Tests.{T-true, true-T, and-r, some-mk, need-of}
 use Rattle.model.proofs.Formed.{Formed}
 use Rattle.model.proofs.Soundness.{Sound, holder-in}
-use Rattle.waits.specs.Beside.{busyOf, busyIn, clearBy}
-use Rattle.waits.specs.Waits.{actHinders, actRoom, timerRoom}
+use Rattle.conflicts.specs.Busy.{busyOf, busyIn, clearBy}
+use Rattle.waits.specs.Waits.{actHinders, actRoom, timerRoom, waitNumber}
 use Rattle.waits.proofs.Waits.{hindersAt, roomAt, wait-by-holders}
-
--- "d from 1 to 1,000,000,000"
-pub range-none : (d : ℕ) → d < 1 → false ≡ inRange d
-range-none d h = rw (lt-leb 1 d h)
-
-pub range-most : (d : ℕ) → 1 ≤ d → leb d mostTicks ≡ inRange d
-range-most d h = rw (le-leb 1 d h)
 
 -- a holder that hinders
 module _ (K : Table) (busy : List ℕ) (y : Act) where
@@ -70,19 +64,30 @@ pub ruleset rooms = (room-idle, room-ether, room-codel)
 pub timer-fits-in : (K : Table) (d t timer n : ℕ) → n ≡ K .period t → leb (timer + d) n ≡ timerRoom K d t timer
 timer-fits-in K d t timer n q = rw q
 
--- the number of a wait that no task hinders
-module _ (room : Bool) (date d : ℕ) where
-  pub number-full : not room ≡ true → 17 ≡ need room 17 (need (leb (date + d) ceiling) 18 0)
-  number-full f = rw (not-true room f)
+pub range-fits : {d : ℕ} {r : Bool} → r ≡ inRange d → not r ≡ false → d ≤ mostTicks
+range-fits {d} {r} q e = leb→le d mostTicks (and-r (leb 1 d) _ (true-T _ (sym q ∙ not-false r e)))
 
-  module _ (f : not room ≡ false) where
-    pub number-late : ceiling < date + d → 18 ≡ need room 17 (need (leb (date + d) ceiling) 18 0)
-    number-late l = rw (not-false room f, lt-leb (date + d) ceiling l)
+-- the number of a wait
+module _ (free room : Bool) (date d : ℕ) {r : Bool} (q : r ≡ inRange d) where
+  pub number-range : not r ≡ true → 12 ≡ waitNumber free room date d
+  number-range e = rw (← q, not-true r e)
 
-    pub number-none : date + d ≤ ceiling → 0 ≡ need room 17 (need (leb (date + d) ceiling) 18 0)
-    number-none l = rw (not-false room f, le-leb (date + d) ceiling l)
+  module _ (e : not r ≡ false) where
+    pub number-hindered : not free ≡ true → 16 ≡ waitNumber free room date d
+    number-hindered f = rw (← q, not-false r e, not-true free f)
 
-pub ruleset numbers = (number-full, number-late, number-none)
+    module _ (f : not free ≡ false) where
+      pub number-full : not room ≡ true → 17 ≡ waitNumber free room date d
+      number-full g = rw (← q, not-false r e, not-false free f, not-true room g)
+
+      module _ (g : not room ≡ false) where
+        pub number-late : ceiling < date + d → 18 ≡ waitNumber free room date d
+        number-late l = rw (← q, not-false r e, not-false free f, not-false room g, lt-leb (date + d) ceiling l)
+
+        pub number-none : date + d ≤ ceiling → 0 ≡ waitNumber free room date d
+        number-none l = rw (← q, not-false r e, not-false free f, not-false room g, le-leb (date + d) ceiling l)
+
+pub ruleset numbers = (number-range, number-hindered, number-full, number-late, number-none)
 
 and-true : (b : Bool) → (b and true) ≡ b
 and-true true = refl
@@ -96,27 +101,24 @@ and-and false b c = refl
 pub rows-long : {A B : Type 0} (f : A → B) (l : List A) (n : ℕ) → length (map f l) ≡ n → length l ≡ n
 rows-long f l n e = sym (length-map l f) ∙ e
 
--- ticks outside their range
-pub wait-range : (K : Table) (s : State) (d : ℕ) (r : Bool) → r ≡ inRange d → not r ≡ true → 12 ≡ waitRefusal K s d
-wait-range K s d r q e = rw (← q, not-true r e)
-
--- a wait of d ticks in their range, on a sound state of nt tasks
+-- a wait of d ticks, as a line says them, on a sound state of nt tasks
 pub record Asks (K : Table) (s : State) (d nt : ℕ) : Type 0 where
   pub formed : Formed K
   pub sound : Sound K s
-  pub ticks : inRange d ≡ true
+  pub small : d < etherValue
   pub all : nt ≡ K .ntasks
 
 module _ {K : Table} {s : State} {d nt : ℕ} (A : Asks K s d nt) where
-  pub ticks-fit : d ≤ mostTicks
-  ticks-fit = leb→le d mostTicks (and-r (leb 1 d) _ (true-T _ (A .ticks)))
+  -- a wait that is accepted has ticks in their range
+  pub ticks-fit : {n : ℕ} → n ≡ waitRefusal K s d → n ≡ 0 → d ≤ mostTicks
+  ticks-fit q z = leb→le d mostTicks (and-r (leb 1 d) _ (need-of (inRange d) 12 _ tt (sym q ∙ z) .0))
 
   module _ {t : ℕ} (h : t < nt) where
-    pub task-fits : t < 16
+    pub task-fits : t < mostTasks
     task-fits = omega (arith, A .all, A .formed .fits .0)
 
     -- an activity that holds it has its row
-    pub holder-fits : {a : ℕ} → taskAt s t .holder ≡ Activity a → a < 64
+    pub holder-fits : {a : ℕ} → taskAt s t .holder ≡ Activity a → a < mostActs
     holder-fits {a} e = omega (arith, holder-in K s (A .sound) t a (omega (arith, A .all)) e .0, A .formed .fits .1)
 
 -- its first k tasks do not hinder it, and room says whether all of them have room for it
@@ -131,43 +133,41 @@ pub asked-none : {K : Table} {s : State} {busy : List ℕ} {d nt : ℕ} → Asks
 unfolding each some
 asked-none A q = record { asks = A; kept = q; most = omega arith; none = refl; roomy = refl }
 
+-- what task k says: whether it hinders the wait, and whether it has room too
+pub record Says (K : Table) (s : State) (d : ℕ) (before : Bool) (k : ℕ) (h w : Bool) : Type 0 where
+  pub hinders : h ≡ hindersAt K s k
+  pub room : w ≡ (before and roomAt K s d k)
+
 module _ {K : Table} {s : State} {busy : List ℕ} {d nt : ℕ} {room : Bool} {k : ℕ} (Q : Asked K s busy d nt room k) where
   -- what is kept has as many rows as the state
   pub busy-long : K .nacts ≤ length busy
   busy-long = rw (Q .kept, length-map (s .acts) busyOf) (omega (arith, Q .asks .formed .fits .1, Q .asks .sound .shape .acts))
 
-  -- one more task: it hinders, or it does not and its room is known
-  module _ (h : k < nt) where
-    stops : hindersAt K s k ≡ true → 16 ≡ waitRefusal K s d
-    stops f =
-        let w : some (K .ntasks) (hindersAt K s) ≡ true = T-true _ (some-mk (hindersAt K s) (K .ntasks) k (omega (arith, Q .asks .all)) (true-T _ f)) in
-        rw (wait-by-holders K (Q .asks .formed) s (Q .asks .sound) d, Q .asks .ticks, w)
+  module _ {v : Bool} (j : v ≡ timerRoom K d k (taskAt s k .timer)) {w : Bool} (g : w ≡ (room and v)) where
+    -- its manager holds
+    pub manager-says : taskAt s k .holder ≡ Manager → {r : Bool} → r ≡ (taskAt s k .managing or taskAt s k .signal) → {x : Bool} → x ≡ w → {h : Bool} → h ≡ r → Says K s d room k h x
+    manager-says q i p e = record { hinders = e ∙ i ∙ rw q; room = p ∙ g ∙ rw (q, j) (ap (λ b. room and b) (sym (and-true _))) }
 
-    goes : hindersAt K s k ≡ false → {w : Bool} → w ≡ (room and roomAt K s d k) → Asked K s busy d nt w (k + 1)
+    -- an activity does
+    pub activity-says : {a : ℕ} → taskAt s k .holder ≡ Activity a → {r : Bool} → r ≡ actHinders K busy (actAt s a) → {u : Bool} → u ≡ actRoom K d (actAt s a) → {z : Bool} → z ≡ (w and u) → {x : Bool} → x ≡ z → {h : Bool} → h ≡ r → Says K s d room k h x
+    activity-says q i e f p o = record { hinders = o ∙ i ∙ rw (q, Q .kept); room = p ∙ f ∙ rw (g, e, j, q) (and-and room _ _) }
+
+  module _ (h : k < nt) {r w : Bool} (S : Says K s d room k r w) where
+    -- it does not hinder: one more is asked
+    pub asked-more : r ≡ false → Asked K s busy d nt w (k + 1)
     unfolding each some
-    goes f g = record { asks = Q .asks; kept = Q .kept; most = omega arith; none = rw (add-one, Q .none) f; roomy = rw (add-one, ← Q .roomy) g }
+    asked-more f = record { asks = Q .asks; kept = Q .kept; most = omega arith; none = rw (add-one, Q .none) (sym (S .hinders) ∙ f); roomy = rw (add-one, ← Q .roomy) (S .room) }
 
-    module _ {v : Bool} (j : v ≡ timerRoom K d k (taskAt s k .timer)) {w : Bool} (g : w ≡ (room and v)) where
-      -- its manager holds
-      module _ (q : taskAt s k .holder ≡ Manager) {r : Bool} (i : r ≡ (taskAt s k .managing or taskAt s k .signal)) where
-        pub manager-stops : r ≡ true → 16 ≡ waitRefusal K s d
-        manager-stops f = stops (rw q (sym i ∙ f))
-
-        pub manager-goes : r ≡ false → Asked K s busy d nt w (k + 1)
-        manager-goes f = goes (rw q (sym i ∙ f)) (g ∙ rw (q, j) (ap (λ b. room and b) (sym (and-true _))))
-
-      -- an activity does
-      module _ {a : ℕ} (q : taskAt s k .holder ≡ Activity a) {r : Bool} (i : r ≡ actHinders K busy (actAt s a)) where
-        pub activity-stops : r ≡ true → 16 ≡ waitRefusal K s d
-        activity-stops f = stops (rw (q, ← Q .kept) (sym i ∙ f))
-
-        pub activity-goes : r ≡ false → {u : Bool} → u ≡ actRoom K d (actAt s a) → {x : Bool} → x ≡ (w and u) → Asked K s busy d nt x (k + 1)
-        activity-goes f e p = goes (rw (q, ← Q .kept) (sym i ∙ f)) (p ∙ rw (g, e, j, q) (and-and room _ _))
+    -- it hinders: no other is asked
+    pub asked-stops : r ≡ true → (more : Bool) {n : ℕ} → n ≡ waitNumber (leb nt k) more (s .date) d → n ≡ waitRefusal K s d
+    asked-stops f more e =
+        let w : some (K .ntasks) (hindersAt K s) ≡ true = T-true _ (some-mk (hindersAt K s) (K .ntasks) k (omega (arith, Q .asks .all)) (true-T _ (sym (S .hinders) ∙ f))) in
+        e ∙ rw (wait-by-holders K (Q .asks .formed) s (Q .asks .sound) d, w, lt-leb nt k h)
 
   -- all have been asked
-  pub wait-numbered : nt ≤ k → (n : ℕ) → n ≡ need room 17 (need (leb (s .date + d) ceiling) 18 0) → n ≡ waitRefusal K s d
-  wait-numbered l n e =
+  pub asked-all : nt ≤ k → {more : Bool} → more ≡ room → {n : ℕ} → n ≡ waitNumber (leb nt k) more (s .date) d → n ≡ waitRefusal K s d
+  asked-all l i e =
       let all : k ≡ K .ntasks = omega (arith, Q .most, Q .asks .all) in
       let none : some (K .ntasks) (hindersAt K s) ≡ false = subst (λ j. some j (hindersAt K s) ≡ false) all (Q .none) in
       let room-all : room ≡ each (K .ntasks) (roomAt K s d) = subst (λ j. room ≡ each j (roomAt K s d)) all (Q .roomy) in
-      rw (wait-by-holders K (Q .asks .formed) s (Q .asks .sound) d, Q .asks .ticks, none, ← room-all) e
+      e ∙ rw (wait-by-holders K (Q .asks .formed) s (Q .asks .sound) d, none, ← room-all, le-leb nt k l, i)

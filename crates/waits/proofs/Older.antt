@@ -22,7 +22,6 @@ use Rattle.model.proofs.Rows.{anew-length, anew-past, anew-at}
 use Rattle.model.proofs.Formed.{Formed}
 use Rattle.model.proofs.Frames.{in-acts}
 use Rattle.model.proofs.Soundness.{Sound, held-is, holder-in, executing-at}
-use Rattle.waits.specs.Beside.{busyOf, listedOf, busyIn, listedIn}
 use Rattle.waits.specs.Waits.{older, olderActs}
 
 -- one holder older: as many activities, the others as they were, and nothing kept changes
@@ -45,16 +44,11 @@ module _ (s : State) (d : ℕ) where
   older-length zero = refl
   older-length (suc n) = one-length d (olderActs s d n) (taskAt s n .holder) ∙ older-length n
 
-  older-same : {B : Type 0} (f : Act → B) → ((y : Act) → f (clocked d y) ≡ f y) → (n : ℕ) → map f (olderActs s d n) ≡ map f (s .acts)
+  -- what a wait does not change of an activity stays as it is
+  pub older-same : {B : Type 0} (f : Act → B) → ((y : Act) → f (clocked d y) ≡ f y) → (n : ℕ) → map f (olderActs s d n) ≡ map f (s .acts)
   unfolding olderActs
   older-same f e zero = refl
   older-same f e (suc n) = one-same d (olderActs s d n) f e (taskAt s n .holder) ∙ older-same f e n
-
-  pub older-busy : (n : ℕ) → map busyOf (olderActs s d n) ≡ busyIn s
-  older-busy = older-same busyOf (λ y. refl)
-
-  pub older-listed : (n : ℕ) → map listedOf (olderActs s d n) ≡ listedIn s
-  older-listed = older-same listedOf (λ y. refl)
 
   -- an activity that holds none of the first tasks
   pub not-older : (n a : ℕ) → ((t : ℕ) → t < n → taskAt s t .holder ≡ Activity a → ⊥) → getD (olderActs s d n) a noAct ≡ actAt s a

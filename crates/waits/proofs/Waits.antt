@@ -19,9 +19,9 @@ use Rattle.model.proofs.Soundness.{Sound, held-is, holder-in, executing-at, tas
 use Rattle.model.proofs.Urgent.{urgent-hindered}
 use Rattle.table.proofs.Tests.{some-same}
 use Rattle.table.proofs.Marks.{or-false}
-use Rattle.waits.specs.Beside.{busyIn}
+use Rattle.conflicts.specs.Busy.{busyIn}
 use Rattle.waits.specs.Waits.{heldIn, hindersBy, limitAt, heldRoom, roomBy}
-use Rattle.waits.proofs.Beside.{clear-by-at}
+use Rattle.conflicts.proofs.Busy.{clear-by-at}
 
 -- the two tests of task t
 abbrev pub hindersAt : Table → State → ℕ → Bool

@@ -4,7 +4,8 @@ use mathlib.Core.Bool.{Bool, true}
 use mathlib.Core.List.{List}
 use lib.ListN.{getD, set}
 use lib.Dec.{leb}
-use Rattle.model.specs.Tests.{_and_, _or_, _implies_}
+use Rattle.model.specs.Tests.{_and_, _or_, _implies_, need}
+use Rattle.model.specs.Limits.{inRange, ceiling}
 use Rattle.model.specs.Tables.{Table, isEther}
 use Rattle.model.specs.States.{noAct, taskAt, stands}
 use Rattle.model.specs.Rules.{clocked}
@@ -15,7 +16,7 @@ use Rattle.model.specs.declared.Place.{Place}
 use Rattle.model.specs.declared.Place.the-variants.{Ether, Codel}
 use Rattle.model.specs.declared.Holder.{Holder}
 use Rattle.model.specs.declared.Holder.the-variants.{Manager, Activity}
-use Rattle.waits.specs.Beside.{clearByAt}
+use Rattle.conflicts.specs.Busy.{clearByAt}
 
 -- the activity that holds, 0 where the manager does
 abbrev pub heldIn : Holder → ℕ
@@ -51,6 +52,15 @@ timerRoom K d t timer = leb (timer + d) (K .period t)
 
 abbrev pub roomBy : Table → ℕ → ℕ → Task → Act → Bool
 roomBy K d t x y = timerRoom K d t (x .timer) and heldRoom K d (x .holder) y
+
+-- the number of a wait, by what its tasks say: free, no task hinders it; room, all have room
+abbrev pub waitNumber : Bool → Bool → ℕ → ℕ → ℕ
+waitNumber free room date d =
+    need (inRange d) 12
+    (need free 16
+    (need room 17
+    (need (leb (date + d) ceiling) 18
+    0)))
 
 -- the activities once the holders of the first n tasks are older by d
 abbrev pub older : Holder → ℕ → List Act → List Act

@@ -4,7 +4,8 @@ use Prim.Native.Nat.{_≤_, _-_}
 use mathlib.Core.Path.{_≡_, refl}
 use lib.ListN.{length}
 use Rattle.model.specs.Limits.{mostActs}
-use Rattle.waits.specs.Beside.{busyOf, listedOf}
+use Rattle.conflicts.specs.Busy.{busyOf}
+use Rattle.managing.specs.Listed.{listedOf}
 use Rattle.waits.proofs.Holders.{rows-long}
 use Rattle.engine.proofs.Starting.{Noted, noted-none, noted-more, going-made}
 use Rattle.engine.proofs.going_from.Statement.{statement}

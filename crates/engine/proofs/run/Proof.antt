@@ -2,53 +2,53 @@
 -- come to from the start. Inside a wait the first tasks have been asked, and once all have been, the first tasks and their holders are
 -- older. Inside an `sm` the first activities of its task are in N and R.
 use Prim.Native.Nat.{_+_, _-_, _<_}
-use mathlib.Core.Path.{_≡_}
+use mathlib.Core.Logic.{⊎-elim}
+use mathlib.Core.Path.{_≡_, _∙_}
 use native.Mathlib.Omega.{arith}
 use denote.Ref.{now}
 use borrow.Author.Needs.{needs}
 use lib.ListN.{length}
-use Rattle.text.proofs.Turns.{part-starts, part-ends}
-use Rattle.model.specs.Rules.{putTask}
+use Rattle.text.proofs.Seeking.{part-starts, part-ends}
+use Rattle.model.specs.Limits.{mostTasks, mostActs}
+use Rattle.model.specs.Rules.{waitRefusal}
 use Rattle.prepared.specs.Prepared.{tableIn}
-use Rattle.waits.proofs.Facts.{place-known, timer-fits, clock-fits}
-use Rattle.waits.proofs.Holders.{rows-long, wait-range, ticks-fit, task-fits, holder-fits, Asked, busy-long as asked-long, manager-stops, manager-goes, activity-stops, activity-goes, wait-numbered}
+use Rattle.rules.proofs.Facts.{place-known, timer-fits, clock-fits}
+use Rattle.waits.proofs.Holders.{rows-long, task-fits, holder-fits, Asked, Says, busy-long as asked-long, manager-says, activity-says, asked-more, asked-stops, asked-all}
 use Rattle.tally.specs.Tallies.{Roomy}
-use Rattle.engine.proofs.Runs.{Plays, run-starts, run-ends, run-bad, busy-sized, listed-sized, Scene, Turn, Goes, turn-is, newline-inside, less-left, room-for-one, turn-passed, turn-kept, turn-full, turn-told, rows-kept}
-use Rattle.engine.proofs.Waiting.{Ages, ages-none, date-fits, timer-small, ages-manager, ager-fits, clock-small, ages-activity, Waits, turn-waits, asks-none, wait-stops, wait-on}
-use Rattle.engine.proofs.Naming.{sm-missing, task-missing, act-missing, Tasked, turn-tasked, task-cell, missed-small, cycle-small, opened-before, listed-long, Named, turn-named, act-cell, touched, place-there, busy-long}
-use Rattle.engine.proofs.Managing.{Lists, listed-fits, lists-more, Manages, turn-manages, sm-stops, lists-none, sm-on}
-use Rattle.engine.proofs.Stepping.{TaskSteps, turn-task, task-stops, task-goes, Steps, turn-act, act-stops, act-goes}
+use Rattle.engine.proofs.Runs.{Continues, run-starts, run-ends, run-bad, busy-sized, listed-sized, Scene, table, Turn, Goes, turn-is, newline-inside, less-left, room-for-one, turn-stops, turn-passed, turn-kept, turn-full, turn-told, rows-kept}
+use Rattle.engine.proofs.Waiting.{Ages, ages-none, date-fits, timer-small, ages-manager, ager-fits, clock-small, ages-activity, Waits, turn-waits, asks-none, is-refusal, wait-goes}
+use Rattle.engine.proofs.Naming.{Tasked, turn-tasked, task-cell, missed-small, cycle-small, opened-before, listed-long, Named, turn-named, act-cell, touched, place-there, busy-long}
+use Rattle.engine.proofs.Managing.{Lists, listed-fits, lists-more, Manages, turn-manages, lists-none, sm-goes}
+use Rattle.engine.proofs.Stepping.{TaskSteps, turn-task, task-goes, Steps, turn-act, act-number, act-goes, act-unnamed}
 use Rattle.engine.proofs.run.Statement.{statement}
 use Rattle.engine.proofs.run.Tie as tie
 
 abbrev Inv-loop2 : tie.InvT-loop2
-Inv-loop2 rows index log from buf place nt s busy listed c at filled e d room₀ k₀ room k = Asked (tableIn rows index) s busy d nt room k
+Inv-loop2 rows index log from buf place nt s busy listed c at filled refusal e w d room₀ k₀ room k = Asked (tableIn rows index) s busy d nt room k
 
 abbrev μ-loop2 : tie.MeasureT-loop2
-μ-loop2 rows index log from buf place nt s busy listed c at filled e d room₀ k₀ room k = nt - k
+μ-loop2 rows index log from buf place nt s busy listed c at filled refusal e w d room₀ k₀ room k = nt - k
 
 abbrev Inv-loop3 : tie.InvT-loop3
-Inv-loop3 rows index log from buf place nt s₀ busy listed c at filled e d room k n m₀ s m = Ages (tableIn rows index) s₀ d nt s m
+Inv-loop3 rows index log from buf place nt s₀ busy listed c at filled refusal e w d room k m₀ s m = Ages (tableIn rows index) s₀ d nt s m
 
 abbrev μ-loop3 : tie.MeasureT-loop3
-μ-loop3 rows index log from buf place nt s₀ busy listed c at filled e d room k n m₀ s m = nt - m
+μ-loop3 rows index log from buf place nt s₀ busy listed c at filled refusal e w d room k m₀ s m = nt - m
 
 abbrev Inv-loop4 : tie.InvT-loop4
-Inv-loop4 rows index log from buf place nt s₀ busy listed₀ c at filled e t n r x k end a₀ s listed a = Lists rows index n r t a₀ end s₀ s listed a
+Inv-loop4 rows index log from buf place nt s₀ busy listed₀ c at filled refusal e w t n r i x end a₀ s listed a = Lists rows index n r i a₀ end s₀ s listed a
 
 abbrev μ-loop4 : tie.MeasureT-loop4
-μ-loop4 rows index log from buf place nt s₀ busy listed₀ c at filled e t n r x k end a₀ s listed a = end - a
+μ-loop4 rows index log from buf place nt s₀ busy listed₀ c at filled refusal e w t n r i x end a₀ s listed a = end - a
 
 abbrev Inv-loop : tie.InvT-loop
-Inv-loop rows index log from buf₀ place nt s₀ busy₀ listed₀ c₀ at₀ filled₀ buf s busy listed c at filled = Plays (tableIn rows index) log from s₀ c₀ buf₀ place s busy listed c at buf filled
+Inv-loop rows index log from buf₀ place nt s₀ busy₀ listed₀ c₀ at₀ filled₀ refusal₀ buf s busy listed c at filled refusal = Continues (tableIn rows index) log from s₀ c₀ buf₀ place s busy listed c at buf filled refusal
 
 abbrev μ-loop : tie.MeasureT-loop
-μ-loop rows index log from buf₀ place nt s₀ busy₀ listed₀ c₀ at₀ filled₀ buf s busy listed c at filled = length log - at
+μ-loop rows index log from buf₀ place nt s₀ busy₀ listed₀ c₀ at₀ filled₀ refusal₀ buf s busy listed c at filled refusal = length log - at
 
--- The values of a turn, once its step is read, and what each test adds to what is known.
-abbrev scene :
-    (c : tie.After-known-told Inv-loop2 μ-loop2 Inv-loop3 μ-loop3 Inv-loop4 μ-loop4 Inv-loop μ-loop) →
-    Scene
+-- The values of a turn, once its step is read; what each test adds to what is known; and the way by which a place was reached.
+abbrev scene : tie.After-known-told Inv-loop2 μ-loop2 Inv-loop3 μ-loop3 Inv-loop4 μ-loop4 Inv-loop μ-loop → Scene
 scene c =
     let given = c .before .before .before .before .before .before .before .before .before .before .before .before .before .before .before .before .args in
     let head = c .before .before .before .before .before .before .loop in
@@ -71,76 +71,103 @@ scene c =
       step = c .before .st .given .0 .0;
     }
 
-turn :
-    (c : tie.After-known-told Inv-loop2 μ-loop2 Inv-loop3 μ-loop3 Inv-loop4 μ-loop4 Inv-loop μ-loop) →
-    Turn (scene c)
+turn : (c : tie.After-known-told Inv-loop2 μ-loop2 Inv-loop3 μ-loop3 Inv-loop4 μ-loop4 Inv-loop μ-loop) → Turn (scene c)
 turn c = search turn-is
 
-behind-fits :
-    (c : tie.After-known-told Inv-loop2 μ-loop2 Inv-loop3 μ-loop3 Inv-loop4 μ-loop4 Inv-loop μ-loop) →
-    c .before .before .before .before .next-byte .result + 1 < 18446744073709551616
-behind-fits c =
-    omega (arith, newline-inside (turn c), c .before .before .before .before .before .before .before .before .before .before .before .before .before .before .before .before .good .1 .1 .0 .0)
+behind-fits : (c : tie.After-known-told Inv-loop2 μ-loop2 Inv-loop3 μ-loop3 Inv-loop4 μ-loop4 Inv-loop μ-loop) → scene c .newline + 1 < 18446744073709551616
+behind-fits c = omega (arith, newline-inside (turn c), c .before .before .before .before .before .before .before .before .before .before .before .before .before .before .before .before .good .1 .1 .0 .0)
 
-falls :
-    (c : tie.After-known-told Inv-loop2 μ-loop2 Inv-loop3 μ-loop3 Inv-loop4 μ-loop4 Inv-loop μ-loop) →
-    length (now (c .before .before .before .before .before .before .before .before .before .before .before .before .before .before .before .before .args .log)) - (c .before .before .before .before .next-byte .result + 1) < length (now (c .before .before .before .before .before .before .before .before .before .before .before .before .before .before .before .before .args .log)) - c .before .before .before .before .before .before .loop .at
+falls : (c : tie.After-known-told Inv-loop2 μ-loop2 Inv-loop3 μ-loop3 Inv-loop4 μ-loop4 Inv-loop μ-loop) → length (scene c .log) - (scene c .newline + 1) < length (scene c .log) - scene c .at
 falls c = less-left (turn c)
 
-keeps :
-    (c : tie.After-known-told Inv-loop2 μ-loop2 Inv-loop3 μ-loop3 Inv-loop4 μ-loop4 Inv-loop μ-loop) →
-    length (c .before .before .before .before .before .before .loop .buf) ≡ length (now (c .before .before .before .before .before .before .before .before .before .before .before .before .before .before .before .before .args .buf))
-keeps c = rows-kept (turn c .plays .rows)
-
-counts :
-    (c : tie.After-known-told Inv-loop2 μ-loop2 Inv-loop3 μ-loop3 Inv-loop4 μ-loop4 Inv-loop μ-loop) →
-    Roomy (c .before .before .before .before .before .before .loop .c) 1
+counts : (c : tie.After-known-told Inv-loop2 μ-loop2 Inv-loop3 μ-loop3 Inv-loop4 μ-loop4 Inv-loop μ-loop) → Roomy (scene c .tally) 1
 counts c = room-for-one (turn c)
 
-waits :
-    (c : tie.After-known-told2 Inv-loop2 μ-loop2 Inv-loop3 μ-loop3 Inv-loop4 μ-loop4 Inv-loop μ-loop) →
-    Waits (scene (c .before .before .before)) (c .before .st2 .given .0 .0)
+-- as many tasks as the loops walk
+tasks-are : (c : tie.After-known-told Inv-loop2 μ-loop2 Inv-loop3 μ-loop3 Inv-loop4 μ-loop4 Inv-loop μ-loop) → c .before .before .before .before .before .before .before .before .before .before .before .tasks .result ≡ table (scene c) .ntasks
+tasks-are c = c .before .before .before .before .before .before .before .before .before .before .before .tasks .ensures
+
+-- a wait
+waits : (c : tie.After-known-told2 Inv-loop2 μ-loop2 Inv-loop3 μ-loop3 Inv-loop4 μ-loop4 Inv-loop μ-loop) → Waits (scene (c .before .before .before)) (c .before .st2 .given .0 .0)
 waits c = search (turn-waits, turn)
 
-sm-task :
-    (c : tie.Else5 Inv-loop2 μ-loop2 Inv-loop3 μ-loop3 Inv-loop4 μ-loop4 Inv-loop μ-loop) →
-    Tasked (scene (c .before .before .before .before)) (c .before .before .st3 .given .0 .0)
-sm-task c = search (turn-tasked (turn (c .before .before .before .before)))
+says : (c : tie.At-match3-came Inv-loop2 μ-loop2 Inv-loop3 μ-loop3 Inv-loop4 μ-loop4 Inv-loop μ-loop) → let q = c .before .before .before .before .before .before .loop2 in Says (table (scene (c .before .before .before .before .before .before .before .before .before .before))) (scene (c .before .before .before .before .before .before .before .before .before .before) .state) (c .before .before .before .before .before .before .before .before .st2 .given .0 .0) (q .room) (q .k) (c .match3 .hinders) (c .match3 .room)
+says c =
+    let Q = c .before .before .before .before .before .before .loop2 .inv in
+    let timely = c .before .before .timer-room .ensures in
+    let all = c .before .both .ensures in
+    ⊎-elim
+    (λ w. activity-says Q timely all (w .1 .given .1) (w .5 .ensures) (w .6 .ensures) (w .7 .ensures) (w .8) (w .9))
+    (λ w. manager-says Q timely all (w .1 .given .1) (c .before .before .before .either .ensures) (w .2) (w .3))
+    (c .match3 .came)
 
-manages :
-    (c : tie.After-sm-number Inv-loop2 μ-loop2 Inv-loop3 μ-loop3 Inv-loop4 μ-loop4 Inv-loop μ-loop) →
-    Manages (scene (c .before .before .before .before .before .before)) (c .before .before .before .before .st3 .given .0 .0) (c .before .before .before .before .st3 .given .0 .1 .0) (c .before .before .before .before .st3 .given .0 .1 .1 .0) (c .sm-number .result)
-manages c = search (turn-manages (sm-task (c .before .before)))
+wait-refusal : (c : tie.After-wait-number Inv-loop2 μ-loop2 Inv-loop3 μ-loop3 Inv-loop4 μ-loop4 Inv-loop μ-loop) → c .wait-number .result ≡ waitRefusal (table (scene (c .before .before .before .before .before .before))) (scene (c .before .before .before .before .before .before) .state) (c .before .before .before .before .st2 .given .0 .0)
+wait-refusal c =
+    let Q = c .before .before .loop2 .inv in
+    ⊎-elim
+    (λ w. asked-all Q (w .0 .left) (w .1) (c .wait-number .ensures))
+    (λ w. asked-stops Q (w .0 .taken) (says (record { before = record { before = record { before = record { before = record { before = record { before = c .before .before; loop2-test = w .0 }; x = w .1 }; either = w .2 }; timer-room = w .3 }; both = w .4 }; match3 = w .5 })) (w .6 .taken) (c .before .loop2-test .room) (c .wait-number .ensures))
+    (c .before .loop2-test .came)
 
-task-row :
-    (c : tie.Else7 Inv-loop2 μ-loop2 Inv-loop3 μ-loop3 Inv-loop4 μ-loop4 Inv-loop μ-loop) →
-    Tasked (scene (c .before .before .before .before)) (c .before .before .st4 .given .0 .0)
-task-row c = search (turn-tasked (turn (c .before .before .before .before)))
+-- `sm`, and the steps of a task
+sm-row : (c : tie.After-row-in Inv-loop2 μ-loop2 Inv-loop3 μ-loop3 Inv-loop4 μ-loop4 Inv-loop μ-loop) → Tasked (scene (c .before .before .before .before)) (c .row-in .result)
+sm-row c = turn-tasked (turn (c .before .before .before .before)) (c .before .before .st3 .given .0 .0) (tasks-are (c .before .before .before .before)) (c .row-in .ensures)
 
-of-task :
-    (c : tie.After-task-step Inv-loop2 μ-loop2 Inv-loop3 μ-loop3 Inv-loop4 μ-loop4 Inv-loop μ-loop) →
-    TaskSteps (scene (c .before .before .before .before .before .before .before .before)) (c .before .before .before .before .before .before .st4 .given .0 .0) (c .before .before .before .before .before .before .st4 .given .0 .1 .0) (c .task-step .result)
-of-task c = search (turn-task (task-row (c .before .before .before .before)))
+manages : (c : tie.After-sm-number Inv-loop2 μ-loop2 Inv-loop3 μ-loop3 Inv-loop4 μ-loop4 Inv-loop μ-loop) → Manages (scene (c .before .before .before .before .before .before)) (c .before .before .before .before .st3 .given .0 .0) (c .before .before .row-in .result) (c .before .before .before .before .st3 .given .0 .1 .0) (c .before .before .before .before .st3 .given .0 .1 .1 .0) (c .sm-number .result)
+manages c = turn-manages (sm-row (c .before .before)) (tasks-are (c .before .before .before .before .before .before)) (c .before .before .row-in .ensures) (c .before .before .before .before .st3 .given .1) (c .sm-number .ensures)
 
-closes :
-    (c : tie.After-after-step Inv-loop2 μ-loop2 Inv-loop3 μ-loop3 Inv-loop4 μ-loop4 Inv-loop μ-loop) →
-    Goes (scene (c .before .before .before .before .before .before .before .before .before .before .before .before)) (putTask (c .before .before .before .before .before .before .before .before .before .before .before .before .before .before .before .before .before .before .loop .s) (c .before .before .before .before .before .before .before .before .before .before .st4 .given .0 .0) (c .before .before .before .before .task-step .result .task)) (c .before .before .before .before .before .before .before .before .before .before .before .before .before .before .before .before .before .before .loop .busy) (c .before .before .before .before .before .before .before .before .before .before .before .before .before .before .before .before .before .before .loop .listed) (c .after-step .result) (c .before .ruling-of .result)
-closes c = search (task-goes (of-task (c .before .before .before .before)))
+task-row : (c : tie.After-row-in2 Inv-loop2 μ-loop2 Inv-loop3 μ-loop3 Inv-loop4 μ-loop4 Inv-loop μ-loop) → Tasked (scene (c .before .before .before .before)) (c .row-in2 .result)
+task-row c = turn-tasked (turn (c .before .before .before .before)) (c .before .before .st4 .given .0 .0) (tasks-are (c .before .before .before .before)) (c .row-in2 .ensures)
 
-named :
-    (c : tie.Else10 Inv-loop2 μ-loop2 Inv-loop3 μ-loop3 Inv-loop4 μ-loop4 Inv-loop μ-loop) →
-    Named (scene (c .before .before .before .before .before)) (c .before .before .before .st5 .given .0 .0) (c .before .before .before .st5 .given .0 .1 .0)
+of-task : (c : tie.After-task-step Inv-loop2 μ-loop2 Inv-loop3 μ-loop3 Inv-loop4 μ-loop4 Inv-loop μ-loop) → TaskSteps (scene (c .before .before .before .before .before .before .before .before)) (c .before .before .before .before .before .before .st4 .given .0 .0) (c .before .before .before .before .row-in2 .result) (c .before .before .before .before .before .before .st4 .given .0 .1 .0) (c .task-step .result)
+of-task c = turn-task (task-row (c .before .before .before .before)) (tasks-are (c .before .before .before .before .before .before .before .before)) (c .before .before .before .before .row-in2 .ensures) (c .before .before .before .before .before .before .st4 .given .1) _ (c .before .is-empty-for .ensures) (c .task-step .ensures)
+
+-- the steps of an activity
+named : (c : tie.Else5 Inv-loop2 μ-loop2 Inv-loop3 μ-loop3 Inv-loop4 μ-loop4 Inv-loop μ-loop) → Named (scene (c .before .before .before .before .before)) (c .before .before .before .st5 .given .0 .0) (c .before .before .before .st5 .given .0 .1 .0)
 named c = search (turn-named (turn (c .before .before .before .before .before)))
 
-touches :
-    (c : tie.After-task-in Inv-loop2 μ-loop2 Inv-loop3 μ-loop3 Inv-loop4 μ-loop4 Inv-loop μ-loop) →
-    Tasked (scene (c .before .before .before .before .before .before)) (c .task-in .result)
+touches : (c : tie.After-task-in Inv-loop2 μ-loop2 Inv-loop3 μ-loop3 Inv-loop4 μ-loop4 Inv-loop μ-loop) → Tasked (scene (c .before .before .before .before .before .before)) (c .task-in .result)
 touches c = touched (named (c .before)) (c .task-in .ensures)
 
-of-act :
-    (c : tie.After-local-step Inv-loop2 μ-loop2 Inv-loop3 μ-loop3 Inv-loop4 μ-loop4 Inv-loop μ-loop) →
-    Steps (scene (c .before .before .before .before .before .before .before .before .before .before .before)) (c .before .before .before .before .before .task-in .result) (c .before .before .before .before .before .before .before .before .before .st5 .given .0 .0) (c .before .before .before .before .before .before .before .before .before .st5 .given .0 .1 .0) (c .local-step .result)
+of-act : (c : tie.After-local-step Inv-loop2 μ-loop2 Inv-loop3 μ-loop3 Inv-loop4 μ-loop4 Inv-loop μ-loop) → Steps (scene (c .before .before .before .before .before .before .before .before .before .before .before)) (c .before .before .before .before .before .task-in .result) (c .before .before .before .before .before .before .before .before .before .st5 .given .0 .0) (c .before .before .before .before .before .before .before .before .before .st5 .given .0 .1 .0) (c .local-step .result)
 of-act c = search (turn-act (named (c .before .before .before .before .before .before)))
+
+-- the rows that they read and write stand in the state
+sm-cell : (c : tie.After-row-in Inv-loop2 μ-loop2 Inv-loop3 μ-loop3 Inv-loop4 μ-loop4 Inv-loop μ-loop) → c .row-in .result < mostTasks
+sm-cell c = task-cell (sm-row c)
+
+row-cell : (c : tie.After-row-in2 Inv-loop2 μ-loop2 Inv-loop3 μ-loop3 Inv-loop4 μ-loop4 Inv-loop μ-loop) → c .row-in2 .result < mostTasks
+row-cell c = task-cell (task-row c)
+
+touch-cell : (c : tie.After-task-in Inv-loop2 μ-loop2 Inv-loop3 μ-loop3 Inv-loop4 μ-loop4 Inv-loop μ-loop) → c .task-in .result < mostTasks
+touch-cell c = task-cell (touches c)
+
+own-cell : (c : tie.Else5 Inv-loop2 μ-loop2 Inv-loop3 μ-loop3 Inv-loop4 μ-loop4 Inv-loop μ-loop) → c .before .before .before .st5 .given .0 .0 < mostActs
+own-cell c = act-cell (named c)
+
+-- the turn's end: each kind of step goes on to the rules' next state, and none was refused
+goes : (c : tie.At-match2-came Inv-loop2 μ-loop2 Inv-loop3 μ-loop3 Inv-loop4 μ-loop4 Inv-loop μ-loop) → Goes (scene (c .before)) (c .match2 .s) (c .match2 .busy) (c .match2 .listed) (c .match2 .c) (c .match2 .w)
+goes c =
+    ⊎-elim
+    (λ w.
+    let number : tie.After-wait-number Inv-loop2 μ-loop2 Inv-loop3 μ-loop3 Inv-loop4 μ-loop4 Inv-loop μ-loop = record { before = record { before = record { before = record { before = record { before = record { before = c .before; match2 = w .0 }; st2 = w .1 }; known-told2 = w .2 }; loop2 = w .3 }; loop2-test = w .4 }; wait-number = w .5 } in
+    wait-goes (waits (number .before .before .before)) (w .6 .left) (wait-refusal number) (w .7 .inv) (w .8 .left) (w .10) (w .11) (w .12) (w .9 .ensures) (w .13) (w .15))
+    (⊎-elim
+    (λ w.
+    let number : tie.After-sm-number Inv-loop2 μ-loop2 Inv-loop3 μ-loop3 Inv-loop4 μ-loop4 Inv-loop μ-loop = record { before = record { before = record { before = record { before = record { before = record { before = c .before; match2 = w .0 }; st3 = w .1 }; known-told5 = w .2 }; row-in = w .3 }; x3 = w .4 }; sm-number = w .5 } in
+    sm-goes (manages number) (w .6 .left) (w .9 .inv) (w .10 .left) (w .11 .ensures) (w .13) (w .14) (w .15) (w .12 .ensures) (w .16) (w .18))
+    (⊎-elim
+    (λ w.
+    let told : tie.After-task-step Inv-loop2 μ-loop2 Inv-loop3 μ-loop3 Inv-loop4 μ-loop4 Inv-loop μ-loop = record { before = record { before = record { before = record { before = record { before = record { before = record { before = record { before = c .before; match2 = w .0 }; st4 = w .1 }; known-told6 = w .2 }; row-in2 = w .3 }; x4 = w .4 }; listed2 = w .5 }; is-empty-for = w .6 }; task-step = w .7 } in
+    task-goes (of-task told) (w .8 .left) (w .10 .ensures) (w .12) (w .13) (w .14) (w .11 .ensures) (w .15) (w .17))
+    (λ w.
+    let told : tie.After-local-step Inv-loop2 μ-loop2 Inv-loop3 μ-loop3 Inv-loop4 μ-loop4 Inv-loop μ-loop = record { before = record { before = record { before = record { before = record { before = record { before = record { before = record { before = record { before = record { before = record { before = c .before; match2 = w .0 }; st5 = w .1 }; known-told7 = w .2 }; check-names = w .3 }; if5 = w .4 }; task-in = w .5 }; x5 = w .6 }; y4 = w .7 }; busy3 = w .8 }; is-clear-for = w .9 }; local-step = w .10 } in
+    act-goes (of-act told) (w .11 .left) (w .14 .ensures) (w .15 .ensures) (w .17) (w .18) (w .19) (w .16 .ensures) (w .20) (w .22))))
+    (c .match2 .came)
+
+unrefused : (c : tie.At-match2-came Inv-loop2 μ-loop2 Inv-loop3 μ-loop3 Inv-loop4 μ-loop4 Inv-loop μ-loop) → c .match2 .refusal ≡ 0
+unrefused c =
+    ⊎-elim (λ w. w .14 ∙ w .6 .left) (⊎-elim (λ w. w .17 ∙ w .6 .left) (⊎-elim (λ w. w .16 ∙ w .8 .left) (λ w. w .21 ∙ w .11 .left))) (c .match2 .came)
 
 tasks-requires : tie.Need-tasks-requires Inv-loop2 μ-loop2 Inv-loop3 μ-loop3 Inv-loop4 μ-loop4 Inv-loop μ-loop
 tasks-requires c κs = search needs
@@ -160,32 +187,11 @@ enum-known-st c = search needs
 enum-told : tie.Need-enum-told Inv-loop2 μ-loop2 Inv-loop3 μ-loop3 Inv-loop4 μ-loop4 Inv-loop μ-loop
 enum-told c = search needs
 
-left-at-requires : tie.Need-left-at-requires Inv-loop2 μ-loop2 Inv-loop3 μ-loop3 Inv-loop4 μ-loop4 Inv-loop μ-loop
-left-at-requires c κs = search needs
-
-same-length : tie.Need-same-length Inv-loop2 μ-loop2 Inv-loop3 μ-loop3 Inv-loop4 μ-loop4 Inv-loop μ-loop
-same-length c = search rows-kept
-
-returns : tie.Need-returns Inv-loop2 μ-loop2 Inv-loop3 μ-loop3 Inv-loop4 μ-loop4 Inv-loop μ-loop
-returns c = search run-bad
-
 enum-known-st-2 : tie.Need-enum-known-st-2 Inv-loop2 μ-loop2 Inv-loop3 μ-loop3 Inv-loop4 μ-loop4 Inv-loop μ-loop
 enum-known-st-2 c = search needs
 
-in-range-requires : tie.Need-in-range-requires Inv-loop2 μ-loop2 Inv-loop3 μ-loop3 Inv-loop4 μ-loop4 Inv-loop μ-loop
-in-range-requires c κs = search needs
-
-left-at-requires-2 : tie.Need-left-at-requires-2 Inv-loop2 μ-loop2 Inv-loop3 μ-loop3 Inv-loop4 μ-loop4 Inv-loop μ-loop
-left-at-requires-2 c κs = search needs
-
-same-length-2 : tie.Need-same-length-2 Inv-loop2 μ-loop2 Inv-loop3 μ-loop3 Inv-loop4 μ-loop4 Inv-loop μ-loop
-same-length-2 c = search keeps
-
-returns-2 : tie.Need-returns-2 Inv-loop2 μ-loop2 Inv-loop3 μ-loop3 Inv-loop4 μ-loop4 Inv-loop μ-loop
-returns-2 c = search (wait-stops (waits (c .before .before .before)) 12 (λ z. omega arith), wait-range)
-
 loop2-holds : tie.Need-loop2-holds Inv-loop2 μ-loop2 Inv-loop3 μ-loop3 Inv-loop4 μ-loop4 Inv-loop μ-loop
-loop2-holds c = search (asks-none (waits (c .before .before)))
+loop2-holds c = search (asks-none (waits c))
 
 mul-x : tie.Need-mul-x Inv-loop2 μ-loop2 Inv-loop3 μ-loop3 Inv-loop4 μ-loop4 Inv-loop μ-loop
 mul-x c = search (needs, task-fits)
@@ -193,41 +199,20 @@ mul-x c = search (needs, task-fits)
 element-copy-out-x : tie.Need-element-copy-out-x Inv-loop2 μ-loop2 Inv-loop3 μ-loop3 Inv-loop4 μ-loop4 Inv-loop μ-loop
 element-copy-out-x c = search task-fits
 
-timer-room-requires : tie.Need-timer-room-requires Inv-loop2 μ-loop2 Inv-loop3 μ-loop3 Inv-loop4 μ-loop4 Inv-loop μ-loop
-timer-room-requires c κs = (search needs, omega (arith, c .before .before .loop2 .inv .asks .all, c .before .loop2-test .taken), search timer-fits, search ticks-fit)
-
-both-requires : tie.Need-both-requires Inv-loop2 μ-loop2 Inv-loop3 μ-loop3 Inv-loop4 μ-loop4 Inv-loop μ-loop
-both-requires c κs = search needs
-
-add-k : tie.Need-add-k Inv-loop2 μ-loop2 Inv-loop3 μ-loop3 Inv-loop4 μ-loop4 Inv-loop μ-loop
-add-k c = search (needs, task-fits)
-
-enum-told-2 : tie.Need-enum-told-2 Inv-loop2 μ-loop2 Inv-loop3 μ-loop3 Inv-loop4 μ-loop4 Inv-loop μ-loop
-enum-told-2 c = search needs
-
 either-requires : tie.Need-either-requires Inv-loop2 μ-loop2 Inv-loop3 μ-loop3 Inv-loop4 μ-loop4 Inv-loop μ-loop
 either-requires c κs = search needs
 
-left-at-requires-3 : tie.Need-left-at-requires-3 Inv-loop2 μ-loop2 Inv-loop3 μ-loop3 Inv-loop4 μ-loop4 Inv-loop μ-loop
-left-at-requires-3 c κs = search needs
+timer-room-requires : tie.Need-timer-room-requires Inv-loop2 μ-loop2 Inv-loop3 μ-loop3 Inv-loop4 μ-loop4 Inv-loop μ-loop
+timer-room-requires c κs = (search needs, omega (arith, c .before .before .before .loop2 .inv .asks .all, c .before .before .loop2-test .taken), search timer-fits, c .before .before .before .loop2 .inv .asks .small)
 
-same-length-3 : tie.Need-same-length-3 Inv-loop2 μ-loop2 Inv-loop3 μ-loop3 Inv-loop4 μ-loop4 Inv-loop μ-loop
-same-length-3 c = search keeps
-
-returns-3 : tie.Need-returns-3 Inv-loop2 μ-loop2 Inv-loop3 μ-loop3 Inv-loop4 μ-loop4 Inv-loop μ-loop
-returns-3 c = search (wait-stops (waits (c .before .before .before .before .before .before .before .before .before .before .before .before)) 16 (λ z. omega arith), manager-stops)
-
-loop2-less : tie.Need-loop2-less Inv-loop2 μ-loop2 Inv-loop3 μ-loop3 Inv-loop4 μ-loop4 Inv-loop μ-loop
-loop2-less c = search needs
-
-loop2-again : tie.Need-loop2-again Inv-loop2 μ-loop2 Inv-loop3 μ-loop3 Inv-loop4 μ-loop4 Inv-loop μ-loop
-loop2-again c = manager-goes (c .before .before .before .before .before .before .before .before .loop2 .inv) (c .before .before .before .before .before .before .before .loop2-test .taken) (c .before .before .before .before .before .timer-room .ensures) (c .before .before .before .before .both .ensures) (c .before .before .enum-told2 .given .1) (c .before .either .ensures) (c .if2 .left)
+both-requires : tie.Need-both-requires Inv-loop2 μ-loop2 Inv-loop3 μ-loop3 Inv-loop4 μ-loop4 Inv-loop μ-loop
+both-requires c κs = search needs
 
 enum-known-h : tie.Need-enum-known-h Inv-loop2 μ-loop2 Inv-loop3 μ-loop3 Inv-loop4 μ-loop4 Inv-loop μ-loop
 enum-known-h c = search needs
 
 mul-y : tie.Need-mul-y Inv-loop2 μ-loop2 Inv-loop3 μ-loop3 Inv-loop4 μ-loop4 Inv-loop μ-loop
-mul-y c = omega (arith, holder-fits (c .before .before .before .before .before .before .before .loop2 .inv .asks) (c .before .before .before .before .before .before .loop2-test .taken) (c .before .h .given .1))
+mul-y c = omega (arith, holder-fits (c .before .before .before .before .before .before .before .before .loop2 .inv .asks) (c .before .before .before .before .before .before .before .loop2-test .taken) (c .before .h .given .1))
 
 element-copy-out-y : tie.Need-element-copy-out-y Inv-loop2 μ-loop2 Inv-loop3 μ-loop3 Inv-loop4 μ-loop4 Inv-loop μ-loop
 element-copy-out-y c = search holder-fits
@@ -236,43 +221,31 @@ slice-aggregate-act-hinders : tie.Need-slice-aggregate-act-hinders Inv-loop2 μ-
 slice-aggregate-act-hinders c = search busy-sized
 
 act-hinders-requires : tie.Need-act-hinders-requires Inv-loop2 μ-loop2 Inv-loop3 μ-loop3 Inv-loop4 μ-loop4 Inv-loop μ-loop
-act-hinders-requires c κs = (waits (c .before .before .before .before .before .before .before .before .before .before .before .before) .turn .prepared, search place-known, asked-long (c .before .before .before .before .before .before .before .before .before .loop2 .inv))
-
-left-at-requires-4 : tie.Need-left-at-requires-4 Inv-loop2 μ-loop2 Inv-loop3 μ-loop3 Inv-loop4 μ-loop4 Inv-loop μ-loop
-left-at-requires-4 c κs = search needs
-
-same-length-4 : tie.Need-same-length-4 Inv-loop2 μ-loop2 Inv-loop3 μ-loop3 Inv-loop4 μ-loop4 Inv-loop μ-loop
-same-length-4 c = search keeps
-
-returns-4 : tie.Need-returns-4 Inv-loop2 μ-loop2 Inv-loop3 μ-loop3 Inv-loop4 μ-loop4 Inv-loop μ-loop
-returns-4 c = search (wait-stops (waits (c .before .before .before .before .before .before .before .before .before .before .before .before .before .before .before)) 16 (λ z. omega arith), activity-stops)
+act-hinders-requires c κs = (waits (c .before .before .before .before .before .before .before .before .before .before .before) .turn .prepared, search place-known, asked-long (c .before .before .before .before .before .before .before .before .before .before .loop2 .inv))
 
 act-room-requires : tie.Need-act-room-requires Inv-loop2 μ-loop2 Inv-loop3 μ-loop3 Inv-loop4 μ-loop4 Inv-loop μ-loop
-act-room-requires c κs = (waits (c .before .before .before .before .before .before .before .before .before .before .before .before .before .before) .turn .prepared, search place-known, search clock-fits, search ticks-fit)
+act-room-requires c κs = (waits (c .before .before .before .before .before .before .before .before .before .before .before .before) .turn .prepared, search place-known, search clock-fits, c .before .before .before .before .before .before .before .before .before .before .before .loop2 .inv .asks .small)
 
 both-requires-2 : tie.Need-both-requires-2 Inv-loop2 μ-loop2 Inv-loop3 μ-loop3 Inv-loop4 μ-loop4 Inv-loop μ-loop
 both-requires-2 c κs = search needs
 
-loop2-less-2 : tie.Need-loop2-less-2 Inv-loop2 μ-loop2 Inv-loop3 μ-loop3 Inv-loop4 μ-loop4 Inv-loop μ-loop
-loop2-less-2 c = search needs
+enum-told-2 : tie.Need-enum-told-2 Inv-loop2 μ-loop2 Inv-loop3 μ-loop3 Inv-loop4 μ-loop4 Inv-loop μ-loop
+enum-told-2 c = search needs
 
-loop2-again-2 : tie.Need-loop2-again-2 Inv-loop2 μ-loop2 Inv-loop3 μ-loop3 Inv-loop4 μ-loop4 Inv-loop μ-loop
-loop2-again-2 c = activity-goes (c .before .before .before .before .before .before .before .before .before .before .before .before .before .loop2 .inv) (c .before .before .before .before .before .before .before .before .before .before .before .before .loop2-test .taken) (c .before .before .before .before .before .before .before .before .before .before .timer-room .ensures) (c .before .before .before .before .before .before .before .before .before .both .ensures) (c .before .before .before .before .before .before .before .h .given .1) (c .before .before .before .act-hinders .ensures) (c .before .before .if3 .left) (c .before .act-room .ensures) (c .both2 .ensures)
+add-k : tie.Need-add-k Inv-loop2 μ-loop2 Inv-loop3 μ-loop3 Inv-loop4 μ-loop4 Inv-loop μ-loop
+add-k c = search (needs, task-fits)
+
+loop2-less : tie.Need-loop2-less Inv-loop2 μ-loop2 Inv-loop3 μ-loop3 Inv-loop4 μ-loop4 Inv-loop μ-loop
+loop2-less c = search needs
+
+loop2-again : tie.Need-loop2-again Inv-loop2 μ-loop2 Inv-loop3 μ-loop3 Inv-loop4 μ-loop4 Inv-loop μ-loop
+loop2-again c = asked-more (c .before .before .before .before .before .before .before .loop2 .inv) (c .before .before .before .before .before .before .loop2-test .taken) (says (c .before)) (c .if1 .left)
 
 wait-number-requires : tie.Need-wait-number-requires Inv-loop2 μ-loop2 Inv-loop3 μ-loop3 Inv-loop4 μ-loop4 Inv-loop μ-loop
-wait-number-requires c κs = (omega (arith, c .before .loop2 .inv .asks .sound .date), search ticks-fit)
-
-left-at-requires-5 : tie.Need-left-at-requires-5 Inv-loop2 μ-loop2 Inv-loop3 μ-loop3 Inv-loop4 μ-loop4 Inv-loop μ-loop
-left-at-requires-5 c κs = search needs
-
-same-length-5 : tie.Need-same-length-5 Inv-loop2 μ-loop2 Inv-loop3 μ-loop3 Inv-loop4 μ-loop4 Inv-loop μ-loop
-same-length-5 c = search keeps
-
-returns-5 : tie.Need-returns-5 Inv-loop2 μ-loop2 Inv-loop3 μ-loop3 Inv-loop4 μ-loop4 Inv-loop μ-loop
-returns-5 c = search (wait-stops (waits (c .before .before .before .before .before .before .before)), wait-numbered)
+wait-number-requires c κs = omega (arith, c .before .loop2 .inv .asks .sound .date)
 
 loop3-holds : tie.Need-loop3-holds Inv-loop2 μ-loop2 Inv-loop3 μ-loop3 Inv-loop4 μ-loop4 Inv-loop μ-loop
-loop3-holds c = search ages-none
+loop3-holds c = ages-none (c .before .before .before .loop2 .inv .asks) (wait-refusal (c .before)) (c .if2 .left)
 
 mul-x-2 : tie.Need-mul-x-2 Inv-loop2 μ-loop2 Inv-loop3 μ-loop3 Inv-loop4 μ-loop4 Inv-loop μ-loop
 mul-x-2 c = search (needs, task-fits)
@@ -281,7 +254,7 @@ element-copy-out-x-2 : tie.Need-element-copy-out-x-2 Inv-loop2 μ-loop2 Inv-loop
 element-copy-out-x-2 c = search task-fits
 
 add-late : tie.Need-add-late Inv-loop2 μ-loop2 Inv-loop3 μ-loop3 Inv-loop4 μ-loop4 Inv-loop μ-loop
-add-late c = omega (arith, timer-small (c .before .before .before .loop3 .inv) (c .before .before .loop3-test .taken), ticks-fit (c .before .before .before .loop3 .inv .asks))
+add-late c = omega (arith, timer-small (c .before .before .before .loop3 .inv) (c .before .before .loop3-test .taken), c .before .before .before .loop3 .inv .ticks)
 
 mul-s : tie.Need-mul-s Inv-loop2 μ-loop2 Inv-loop3 μ-loop3 Inv-loop4 μ-loop4 Inv-loop μ-loop
 mul-s c = search (needs, task-fits)
@@ -291,15 +264,6 @@ way-write-given-s c = search task-fits
 
 add-m : tie.Need-add-m Inv-loop2 μ-loop2 Inv-loop3 μ-loop3 Inv-loop4 μ-loop4 Inv-loop μ-loop
 add-m c = search (needs, task-fits)
-
-enum-told-3 : tie.Need-enum-told-3 Inv-loop2 μ-loop2 Inv-loop3 μ-loop3 Inv-loop4 μ-loop4 Inv-loop μ-loop
-enum-told-3 c = search needs
-
-loop3-less : tie.Need-loop3-less Inv-loop2 μ-loop2 Inv-loop3 μ-loop3 Inv-loop4 μ-loop4 Inv-loop μ-loop
-loop3-less c = search needs
-
-loop3-again : tie.Need-loop3-again Inv-loop2 μ-loop2 Inv-loop3 μ-loop3 Inv-loop4 μ-loop4 Inv-loop μ-loop
-loop3-again c = search ages-manager
 
 enum-known-h-2 : tie.Need-enum-known-h-2 Inv-loop2 μ-loop2 Inv-loop3 μ-loop3 Inv-loop4 μ-loop4 Inv-loop μ-loop
 enum-known-h-2 c = search needs
@@ -311,7 +275,7 @@ element-copy-out-y-2 : tie.Need-element-copy-out-y-2 Inv-loop2 μ-loop2 Inv-loop
 element-copy-out-y-2 c = search ager-fits
 
 older-clock-requires : tie.Need-older-clock-requires Inv-loop2 μ-loop2 Inv-loop3 μ-loop3 Inv-loop4 μ-loop4 Inv-loop μ-loop
-older-clock-requires c κs = (search clock-small, search ticks-fit)
+older-clock-requires c κs = (search clock-small, c .before .before .before .before .before .before .before .before .loop3 .inv .ticks)
 
 mul-s-2 : tie.Need-mul-s-2 Inv-loop2 μ-loop2 Inv-loop3 μ-loop3 Inv-loop4 μ-loop4 Inv-loop μ-loop
 mul-s-2 c = omega (arith, ager-fits (c .before .before .before .before .before .before .before .before .before .loop3 .inv) (c .before .before .before .before .before .before .before .before .loop3-test .taken) _ (c .before .before .before .h2 .given .1))
@@ -319,62 +283,47 @@ mul-s-2 c = omega (arith, ager-fits (c .before .before .before .before .before .
 way-write-given-s-2 : tie.Need-way-write-given-s-2 Inv-loop2 μ-loop2 Inv-loop3 μ-loop3 Inv-loop4 μ-loop4 Inv-loop μ-loop
 way-write-given-s-2 c = search ager-fits
 
+loop3-less : tie.Need-loop3-less Inv-loop2 μ-loop2 Inv-loop3 μ-loop3 Inv-loop4 μ-loop4 Inv-loop μ-loop
+loop3-less c = search needs
+
+loop3-again : tie.Need-loop3-again Inv-loop2 μ-loop2 Inv-loop3 μ-loop3 Inv-loop4 μ-loop4 Inv-loop μ-loop
+loop3-again c = search ages-activity
+
+enum-told-3 : tie.Need-enum-told-3 Inv-loop2 μ-loop2 Inv-loop3 μ-loop3 Inv-loop4 μ-loop4 Inv-loop μ-loop
+enum-told-3 c = search needs
+
 loop3-less-2 : tie.Need-loop3-less-2 Inv-loop2 μ-loop2 Inv-loop3 μ-loop3 Inv-loop4 μ-loop4 Inv-loop μ-loop
 loop3-less-2 c = search needs
 
 loop3-again-2 : tie.Need-loop3-again-2 Inv-loop2 μ-loop2 Inv-loop3 μ-loop3 Inv-loop4 μ-loop4 Inv-loop μ-loop
-loop3-again-2 c = search ages-activity
+loop3-again-2 c = search ages-manager
 
 add-s : tie.Need-add-s Inv-loop2 μ-loop2 Inv-loop3 μ-loop3 Inv-loop4 μ-loop4 Inv-loop μ-loop
-add-s c = omega (arith, date-fits (c .before .loop3 .inv), ticks-fit (c .before .loop3 .inv .asks))
-
-add-at : tie.Need-add-at Inv-loop2 μ-loop2 Inv-loop3 μ-loop3 Inv-loop4 μ-loop4 Inv-loop μ-loop
-add-at c = record { fits = search behind-fits }
+add-s c = omega (arith, date-fits (c .before .loop3 .inv), c .before .loop3 .inv .ticks)
 
 after-wait-requires : tie.Need-after-wait-requires Inv-loop2 μ-loop2 Inv-loop3 μ-loop3 Inv-loop4 μ-loop4 Inv-loop μ-loop
 after-wait-requires c κs = search counts
 
-loop-again : tie.Need-loop-again Inv-loop2 μ-loop2 Inv-loop3 μ-loop3 Inv-loop4 μ-loop4 Inv-loop μ-loop
-loop-again c = search (wait-on (waits (c .before .before .before .before .before .before .before .before .before)), wait-numbered)
-
-loop-less : tie.Need-loop-less Inv-loop2 μ-loop2 Inv-loop3 μ-loop3 Inv-loop4 μ-loop4 Inv-loop μ-loop
-loop-less c = search falls
-
 enum-known-st-3 : tie.Need-enum-known-st-3 Inv-loop2 μ-loop2 Inv-loop3 μ-loop3 Inv-loop4 μ-loop4 Inv-loop μ-loop
 enum-known-st-3 c = search needs
 
-left-at-requires-6 : tie.Need-left-at-requires-6 Inv-loop2 μ-loop2 Inv-loop3 μ-loop3 Inv-loop4 μ-loop4 Inv-loop μ-loop
-left-at-requires-6 c κs = search needs
-
-same-length-6 : tie.Need-same-length-6 Inv-loop2 μ-loop2 Inv-loop3 μ-loop3 Inv-loop4 μ-loop4 Inv-loop μ-loop
-same-length-6 c = search keeps
-
-returns-6 : tie.Need-returns-6 Inv-loop2 μ-loop2 Inv-loop3 μ-loop3 Inv-loop4 μ-loop4 Inv-loop μ-loop
-returns-6 c = search (sm-missing (turn (c .before .before .before .before .before)) (c .before .before .before .before .before .before .before .before .before .before .before .before .before .before .before .before .tasks .ensures))
+row-in-requires : tie.Need-row-in-requires Inv-loop2 μ-loop2 Inv-loop3 μ-loop3 Inv-loop4 μ-loop4 Inv-loop μ-loop
+row-in-requires c κs = search needs
 
 mul-x-3 : tie.Need-mul-x-3 Inv-loop2 μ-loop2 Inv-loop3 μ-loop3 Inv-loop4 μ-loop4 Inv-loop μ-loop
-mul-x-3 c = omega (arith, task-cell (sm-task c))
+mul-x-3 c = omega (arith, sm-cell c)
 
 element-copy-out-x-3 : tie.Need-element-copy-out-x-3 Inv-loop2 μ-loop2 Inv-loop3 μ-loop3 Inv-loop4 μ-loop4 Inv-loop μ-loop
-element-copy-out-x-3 c = search (task-cell (sm-task c))
+element-copy-out-x-3 c = search sm-cell
 
 sm-number-requires : tie.Need-sm-number-requires Inv-loop2 μ-loop2 Inv-loop3 μ-loop3 Inv-loop4 μ-loop4 Inv-loop μ-loop
-sm-number-requires c κs = let T = sm-task (c .before) in (T .turn .prepared, T .row)
-
-left-at-requires-7 : tie.Need-left-at-requires-7 Inv-loop2 μ-loop2 Inv-loop3 μ-loop3 Inv-loop4 μ-loop4 Inv-loop μ-loop
-left-at-requires-7 c κs = search needs
-
-same-length-7 : tie.Need-same-length-7 Inv-loop2 μ-loop2 Inv-loop3 μ-loop3 Inv-loop4 μ-loop4 Inv-loop μ-loop
-same-length-7 c = search keeps
-
-returns-7 : tie.Need-returns-7 Inv-loop2 μ-loop2 Inv-loop3 μ-loop3 Inv-loop4 μ-loop4 Inv-loop μ-loop
-returns-7 c = search (sm-stops (manages (c .before .before)))
+sm-number-requires c κs = sm-row (c .before) .turn .prepared
 
 acts-end-requires : tie.Need-acts-end-requires Inv-loop2 μ-loop2 Inv-loop3 μ-loop3 Inv-loop4 μ-loop4 Inv-loop μ-loop
-acts-end-requires c κs = let M = manages (c .before) in (M .tasked .turn .prepared, M .tasked .row)
+acts-end-requires c κs = let T = sm-row (c .before .before .before) in (T .turn .prepared, T .row)
 
 acts-begin-requires : tie.Need-acts-begin-requires Inv-loop2 μ-loop2 Inv-loop3 μ-loop3 Inv-loop4 μ-loop4 Inv-loop μ-loop
-acts-begin-requires c κs = let M = manages (c .before .before) in (M .tasked .turn .prepared, M .tasked .row)
+acts-begin-requires c κs = let T = sm-row (c .before .before .before .before) in (T .turn .prepared, T .row)
 
 loop4-holds : tie.Need-loop4-holds Inv-loop2 μ-loop2 Inv-loop3 μ-loop3 Inv-loop4 μ-loop4 Inv-loop μ-loop
 loop4-holds c = search (lists-none (manages (c .before .before .before)))
@@ -386,7 +335,7 @@ element-copy-out-y-3 : tie.Need-element-copy-out-y-3 Inv-loop2 μ-loop2 Inv-loop
 element-copy-out-y-3 c = search listed-fits
 
 flag-requires : tie.Need-flag-requires Inv-loop2 μ-loop2 Inv-loop3 μ-loop3 Inv-loop4 μ-loop4 Inv-loop μ-loop
-flag-requires c κs = search listed-fits
+flag-requires c κs = search needs
 
 mul-v : tie.Need-mul-v Inv-loop2 μ-loop2 Inv-loop3 μ-loop3 Inv-loop4 μ-loop4 Inv-loop μ-loop
 mul-v c = omega (arith, listed-fits (c .before .before .before .loop4 .inv) (c .before .before .loop4-test .taken))
@@ -413,43 +362,28 @@ loop4-again : tie.Need-loop4-again Inv-loop2 μ-loop2 Inv-loop3 μ-loop3 Inv-loo
 loop4-again c = search lists-more
 
 opened-task-requires : tie.Need-opened-task-requires Inv-loop2 μ-loop2 Inv-loop3 μ-loop3 Inv-loop4 μ-loop4 Inv-loop μ-loop
-opened-task-requires c κs = search (cycle-small (sm-task (c .before .before .before .before .before .before .before)))
+opened-task-requires c κs = cycle-small (sm-row (c .before .before .before .before .before .before .before))
 
 mul-u : tie.Need-mul-u Inv-loop2 μ-loop2 Inv-loop3 μ-loop3 Inv-loop4 μ-loop4 Inv-loop μ-loop
-mul-u c = omega (arith, task-cell (sm-task (c .before .before .before .before .before .before .before .before)))
+mul-u c = omega (arith, sm-cell (c .before .before .before .before .before .before .before .before))
 
 element-set-from-u : tie.Need-element-set-from-u Inv-loop2 μ-loop2 Inv-loop3 μ-loop3 Inv-loop4 μ-loop4 Inv-loop μ-loop
-element-set-from-u c = search (task-cell (sm-task (c .before .before .before .before .before .before .before .before)))
-
-add-at-2 : tie.Need-add-at-2 Inv-loop2 μ-loop2 Inv-loop3 μ-loop3 Inv-loop4 μ-loop4 Inv-loop μ-loop
-add-at-2 c = record { fits = search behind-fits }
+element-set-from-u c = search sm-cell
 
 after-sm-requires : tie.Need-after-sm-requires Inv-loop2 μ-loop2 Inv-loop3 μ-loop3 Inv-loop4 μ-loop4 Inv-loop μ-loop
 after-sm-requires c κs = search counts
 
-loop-again-2 : tie.Need-loop-again-2 Inv-loop2 μ-loop2 Inv-loop3 μ-loop3 Inv-loop4 μ-loop4 Inv-loop μ-loop
-loop-again-2 c = search (sm-on (manages (c .before .before .before .before .before .before .before)))
-
-loop-less-2 : tie.Need-loop-less-2 Inv-loop2 μ-loop2 Inv-loop3 μ-loop3 Inv-loop4 μ-loop4 Inv-loop μ-loop
-loop-less-2 c = search falls
-
 enum-known-st-4 : tie.Need-enum-known-st-4 Inv-loop2 μ-loop2 Inv-loop3 μ-loop3 Inv-loop4 μ-loop4 Inv-loop μ-loop
 enum-known-st-4 c = search needs
 
-left-at-requires-8 : tie.Need-left-at-requires-8 Inv-loop2 μ-loop2 Inv-loop3 μ-loop3 Inv-loop4 μ-loop4 Inv-loop μ-loop
-left-at-requires-8 c κs = search needs
-
-same-length-8 : tie.Need-same-length-8 Inv-loop2 μ-loop2 Inv-loop3 μ-loop3 Inv-loop4 μ-loop4 Inv-loop μ-loop
-same-length-8 c = search keeps
-
-returns-8 : tie.Need-returns-8 Inv-loop2 μ-loop2 Inv-loop3 μ-loop3 Inv-loop4 μ-loop4 Inv-loop μ-loop
-returns-8 c = search (task-missing (turn (c .before .before .before .before .before)) (c .before .before .before .before .before .before .before .before .before .before .before .before .before .before .before .before .tasks .ensures))
+row-in-requires-2 : tie.Need-row-in-requires-2 Inv-loop2 μ-loop2 Inv-loop3 μ-loop3 Inv-loop4 μ-loop4 Inv-loop μ-loop
+row-in-requires-2 c κs = search needs
 
 mul-x-4 : tie.Need-mul-x-4 Inv-loop2 μ-loop2 Inv-loop3 μ-loop3 Inv-loop4 μ-loop4 Inv-loop μ-loop
-mul-x-4 c = omega (arith, task-cell (task-row c))
+mul-x-4 c = omega (arith, row-cell c)
 
 element-copy-out-x-4 : tie.Need-element-copy-out-x-4 Inv-loop2 μ-loop2 Inv-loop3 μ-loop3 Inv-loop4 μ-loop4 Inv-loop μ-loop
-element-copy-out-x-4 c = search (task-cell (task-row c))
+element-copy-out-x-4 c = search row-cell
 
 slice-aggregate-is-empty-for : tie.Need-slice-aggregate-is-empty-for Inv-loop2 μ-loop2 Inv-loop3 μ-loop3 Inv-loop4 μ-loop4 Inv-loop μ-loop
 slice-aggregate-is-empty-for c = search listed-sized
@@ -458,58 +392,19 @@ is-empty-for-requires : tie.Need-is-empty-for-requires Inv-loop2 μ-loop2 Inv-lo
 is-empty-for-requires c κs = let T = task-row (c .before .before) in (T .turn .prepared, T .row, listed-long T)
 
 task-step-requires : tie.Need-task-step-requires Inv-loop2 μ-loop2 Inv-loop3 μ-loop3 Inv-loop4 μ-loop4 Inv-loop μ-loop
-task-step-requires c κs = let T = task-row (c .before .before .before) in (T .turn .prepared, T .row, search (missed-small T))
-
-left-at-requires-9 : tie.Need-left-at-requires-9 Inv-loop2 μ-loop2 Inv-loop3 μ-loop3 Inv-loop4 μ-loop4 Inv-loop μ-loop
-left-at-requires-9 c κs = search needs
-
-same-length-9 : tie.Need-same-length-9 Inv-loop2 μ-loop2 Inv-loop3 μ-loop3 Inv-loop4 μ-loop4 Inv-loop μ-loop
-same-length-9 c = search keeps
-
-returns-9 : tie.Need-returns-9 Inv-loop2 μ-loop2 Inv-loop3 μ-loop3 Inv-loop4 μ-loop4 Inv-loop μ-loop
-returns-9 c = search (task-stops (of-task (c .before .before)))
+task-step-requires c κs = let T = task-row (c .before .before .before) in (T .turn .prepared, missed-small T)
 
 mul-u-2 : tie.Need-mul-u-2 Inv-loop2 μ-loop2 Inv-loop3 μ-loop3 Inv-loop4 μ-loop4 Inv-loop μ-loop
-mul-u-2 c = omega (arith, task-cell (task-row (c .before .before .before .before .before .before)))
+mul-u-2 c = omega (arith, row-cell (c .before .before .before .before .before .before))
 
 element-set-from-u-2 : tie.Need-element-set-from-u-2 Inv-loop2 μ-loop2 Inv-loop3 μ-loop3 Inv-loop4 μ-loop4 Inv-loop μ-loop
-element-set-from-u-2 c = search (task-cell (task-row (c .before .before .before .before .before .before)))
+element-set-from-u-2 c = search row-cell
 
 ruling-of-requires : tie.Need-ruling-of-requires Inv-loop2 μ-loop2 Inv-loop3 μ-loop3 Inv-loop4 μ-loop4 Inv-loop μ-loop
-ruling-of-requires c κs = let T = task-row (c .before .before .before .before .before .before) in (T .turn .prepared, T .row, search (opened-before T))
-
-add-at-3 : tie.Need-add-at-3 Inv-loop2 μ-loop2 Inv-loop3 μ-loop3 Inv-loop4 μ-loop4 Inv-loop μ-loop
-add-at-3 c = record { fits = search behind-fits }
+ruling-of-requires c κs = let T = task-row (c .before .before .before .before .before .before) in (T .turn .prepared, T .row, opened-before T)
 
 after-step-requires : tie.Need-after-step-requires Inv-loop2 μ-loop2 Inv-loop3 μ-loop3 Inv-loop4 μ-loop4 Inv-loop μ-loop
 after-step-requires c κs = search counts
-
-enum-known-w : tie.Need-enum-known-w Inv-loop2 μ-loop2 Inv-loop3 μ-loop3 Inv-loop4 μ-loop4 Inv-loop μ-loop
-enum-known-w c = search needs
-
-loop-again-3 : tie.Need-loop-again-3 Inv-loop2 μ-loop2 Inv-loop3 μ-loop3 Inv-loop4 μ-loop4 Inv-loop μ-loop
-loop-again-3 c = search (turn-passed (closes (c .before)))
-
-loop-less-3 : tie.Need-loop-less-3 Inv-loop2 μ-loop2 Inv-loop3 μ-loop3 Inv-loop4 μ-loop4 Inv-loop μ-loop
-loop-less-3 c = search falls
-
-put-cycle-requires : tie.Need-put-cycle-requires Inv-loop2 μ-loop2 Inv-loop3 μ-loop3 Inv-loop4 μ-loop4 Inv-loop μ-loop
-put-cycle-requires c κs = search needs
-
-left-at-requires-10 : tie.Need-left-at-requires-10 Inv-loop2 μ-loop2 Inv-loop3 μ-loop3 Inv-loop4 μ-loop4 Inv-loop μ-loop
-left-at-requires-10 c κs = search needs
-
-same-length-10 : tie.Need-same-length-10 Inv-loop2 μ-loop2 Inv-loop3 μ-loop3 Inv-loop4 μ-loop4 Inv-loop μ-loop
-same-length-10 c = search (turn-kept (closes (c .before .before .before .before .before .before .before .before .before)))
-
-returns-10 : tie.Need-returns-10 Inv-loop2 μ-loop2 Inv-loop3 μ-loop3 Inv-loop4 μ-loop4 Inv-loop μ-loop
-returns-10 c = search (turn-full (closes (c .before .before .before .before .before .before .before .before .before)))
-
-loop-again-4 : tie.Need-loop-again-4 Inv-loop2 μ-loop2 Inv-loop3 μ-loop3 Inv-loop4 μ-loop4 Inv-loop μ-loop
-loop-again-4 c = search (turn-told (closes (c .before .before .before .before .before .before .before .before)))
-
-loop-less-4 : tie.Need-loop-less-4 Inv-loop2 μ-loop2 Inv-loop3 μ-loop3 Inv-loop4 μ-loop4 Inv-loop μ-loop
-loop-less-4 c = search falls
 
 enum-known-st-5 : tie.Need-enum-known-st-5 Inv-loop2 μ-loop2 Inv-loop3 μ-loop3 Inv-loop4 μ-loop4 Inv-loop μ-loop
 enum-known-st-5 c = search needs
@@ -517,29 +412,20 @@ enum-known-st-5 c = search needs
 check-names-requires : tie.Need-check-names-requires Inv-loop2 μ-loop2 Inv-loop3 μ-loop3 Inv-loop4 μ-loop4 Inv-loop μ-loop
 check-names-requires c κs = search needs
 
-left-at-requires-11 : tie.Need-left-at-requires-11 Inv-loop2 μ-loop2 Inv-loop3 μ-loop3 Inv-loop4 μ-loop4 Inv-loop μ-loop
-left-at-requires-11 c κs = search needs
-
-same-length-11 : tie.Need-same-length-11 Inv-loop2 μ-loop2 Inv-loop3 μ-loop3 Inv-loop4 μ-loop4 Inv-loop μ-loop
-same-length-11 c = search keeps
-
-returns-11 : tie.Need-returns-11 Inv-loop2 μ-loop2 Inv-loop3 μ-loop3 Inv-loop4 μ-loop4 Inv-loop μ-loop
-returns-11 c = search (act-missing (turn (c .before .before .before .before .before .before)))
-
 task-in-requires : tie.Need-task-in-requires Inv-loop2 μ-loop2 Inv-loop3 μ-loop3 Inv-loop4 μ-loop4 Inv-loop μ-loop
 task-in-requires c κs = let M = named c in (M .turn .prepared, M .named)
 
 mul-x-5 : tie.Need-mul-x-5 Inv-loop2 μ-loop2 Inv-loop3 μ-loop3 Inv-loop4 μ-loop4 Inv-loop μ-loop
-mul-x-5 c = omega (arith, task-cell (touches c))
+mul-x-5 c = omega (arith, touch-cell c)
 
 element-copy-out-x-5 : tie.Need-element-copy-out-x-5 Inv-loop2 μ-loop2 Inv-loop3 μ-loop3 Inv-loop4 μ-loop4 Inv-loop μ-loop
-element-copy-out-x-5 c = search (task-cell (touches c))
+element-copy-out-x-5 c = search touch-cell
 
 mul-y-4 : tie.Need-mul-y-4 Inv-loop2 μ-loop2 Inv-loop3 μ-loop3 Inv-loop4 μ-loop4 Inv-loop μ-loop
-mul-y-4 c = omega (arith, act-cell (named (c .before .before)))
+mul-y-4 c = omega (arith, own-cell (c .before .before))
 
 element-copy-out-y-4 : tie.Need-element-copy-out-y-4 Inv-loop2 μ-loop2 Inv-loop3 μ-loop3 Inv-loop4 μ-loop4 Inv-loop μ-loop
-element-copy-out-y-4 c = search (act-cell (named (c .before .before)))
+element-copy-out-y-4 c = search own-cell
 
 slice-aggregate-is-clear-for : tie.Need-slice-aggregate-is-clear-for Inv-loop2 μ-loop2 Inv-loop3 μ-loop3 Inv-loop4 μ-loop4 Inv-loop μ-loop
 slice-aggregate-is-clear-for c = search busy-sized
@@ -550,65 +436,110 @@ is-clear-for-requires c κs = let M = named (c .before .before .before .before) 
 local-step-requires : tie.Need-local-step-requires Inv-loop2 μ-loop2 Inv-loop3 μ-loop3 Inv-loop4 μ-loop4 Inv-loop μ-loop
 local-step-requires c κs = let M = named (c .before .before .before .before .before) in (M .turn .prepared, M .named, place-there M)
 
-left-at-requires-12 : tie.Need-left-at-requires-12 Inv-loop2 μ-loop2 Inv-loop3 μ-loop3 Inv-loop4 μ-loop4 Inv-loop μ-loop
-left-at-requires-12 c κs = search needs
-
-same-length-12 : tie.Need-same-length-12 Inv-loop2 μ-loop2 Inv-loop3 μ-loop3 Inv-loop4 μ-loop4 Inv-loop μ-loop
-same-length-12 c = search keeps
-
-returns-12 : tie.Need-returns-12 Inv-loop2 μ-loop2 Inv-loop3 μ-loop3 Inv-loop4 μ-loop4 Inv-loop μ-loop
-returns-12 c = search (act-stops (of-act (c .before .before)))
-
 mul-u-3 : tie.Need-mul-u-3 Inv-loop2 μ-loop2 Inv-loop3 μ-loop3 Inv-loop4 μ-loop4 Inv-loop μ-loop
-mul-u-3 c = omega (arith, task-cell (touches (c .before .before .before .before .before .before .before .before)))
+mul-u-3 c = omega (arith, touch-cell (c .before .before .before .before .before .before .before .before))
 
 element-set-from-u-3 : tie.Need-element-set-from-u-3 Inv-loop2 μ-loop2 Inv-loop3 μ-loop3 Inv-loop4 μ-loop4 Inv-loop μ-loop
-element-set-from-u-3 c = search (task-cell (touches (c .before .before .before .before .before .before .before .before)))
+element-set-from-u-3 c = search touch-cell
 
 mul-v-2 : tie.Need-mul-v-2 Inv-loop2 μ-loop2 Inv-loop3 μ-loop3 Inv-loop4 μ-loop4 Inv-loop μ-loop
-mul-v-2 c = omega (arith, act-cell (named (c .before .before .before .before .before .before .before .before .before)))
+mul-v-2 c = omega (arith, own-cell (c .before .before .before .before .before .before .before .before .before))
 
 element-set-from-v-2 : tie.Need-element-set-from-v-2 Inv-loop2 μ-loop2 Inv-loop3 μ-loop3 Inv-loop4 μ-loop4 Inv-loop μ-loop
-element-set-from-v-2 c = search (act-cell (named (c .before .before .before .before .before .before .before .before .before)))
+element-set-from-v-2 c = search own-cell
 
 busy-of-requires : tie.Need-busy-of-requires Inv-loop2 μ-loop2 Inv-loop3 μ-loop3 Inv-loop4 μ-loop4 Inv-loop μ-loop
 busy-of-requires c κs = search needs
 
 mul-busy : tie.Need-mul-busy Inv-loop2 μ-loop2 Inv-loop3 μ-loop3 Inv-loop4 μ-loop4 Inv-loop μ-loop
-mul-busy c = omega (arith, act-cell (named (c .before .before .before .before .before .before .before .before .before .before)))
+mul-busy c = omega (arith, own-cell (c .before .before .before .before .before .before .before .before .before .before))
 
 array-write-busy : tie.Need-array-write-busy Inv-loop2 μ-loop2 Inv-loop3 μ-loop3 Inv-loop4 μ-loop4 Inv-loop μ-loop
-array-write-busy c = search (act-cell (named (c .before .before .before .before .before .before .before .before .before .before)))
+array-write-busy c = search own-cell
 
 listed-of-requires-2 : tie.Need-listed-of-requires-2 Inv-loop2 μ-loop2 Inv-loop3 μ-loop3 Inv-loop4 μ-loop4 Inv-loop μ-loop
 listed-of-requires-2 c κs = search needs
 
 mul-listed-2 : tie.Need-mul-listed-2 Inv-loop2 μ-loop2 Inv-loop3 μ-loop3 Inv-loop4 μ-loop4 Inv-loop μ-loop
-mul-listed-2 c = omega (arith, act-cell (named (c .before .before .before .before .before .before .before .before .before .before .before)))
+mul-listed-2 c = omega (arith, own-cell (c .before .before .before .before .before .before .before .before .before .before .before))
 
 array-write-listed-2 : tie.Need-array-write-listed-2 Inv-loop2 μ-loop2 Inv-loop3 μ-loop3 Inv-loop4 μ-loop4 Inv-loop μ-loop
-array-write-listed-2 c = search (act-cell (named (c .before .before .before .before .before .before .before .before .before .before .before)))
-
-add-at-4 : tie.Need-add-at-4 Inv-loop2 μ-loop2 Inv-loop3 μ-loop3 Inv-loop4 μ-loop4 Inv-loop μ-loop
-add-at-4 c = record { fits = search behind-fits }
+array-write-listed-2 c = search own-cell
 
 after-step-requires-2 : tie.Need-after-step-requires-2 Inv-loop2 μ-loop2 Inv-loop3 μ-loop3 Inv-loop4 μ-loop4 Inv-loop μ-loop
 after-step-requires-2 c κs = search counts
 
-loop-again-5 : tie.Need-loop-again-5 Inv-loop2 μ-loop2 Inv-loop3 μ-loop3 Inv-loop4 μ-loop4 Inv-loop μ-loop
-loop-again-5 c = search (act-goes (of-act (c .before .before .before .before .before .before)))
+add-at : tie.Need-add-at Inv-loop2 μ-loop2 Inv-loop3 μ-loop3 Inv-loop4 μ-loop4 Inv-loop μ-loop
+add-at c = record { fits = search behind-fits }
 
-loop-less-5 : tie.Need-loop-less-5 Inv-loop2 μ-loop2 Inv-loop3 μ-loop3 Inv-loop4 μ-loop4 Inv-loop μ-loop
-loop-less-5 c = search falls
+enum-known-w : tie.Need-enum-known-w Inv-loop2 μ-loop2 Inv-loop3 μ-loop3 Inv-loop4 μ-loop4 Inv-loop μ-loop
+enum-known-w c = search needs
 
-left-at-requires-13 : tie.Need-left-at-requires-13 Inv-loop2 μ-loop2 Inv-loop3 μ-loop3 Inv-loop4 μ-loop4 Inv-loop μ-loop
-left-at-requires-13 c κs = search needs
+loop-again : tie.Need-loop-again Inv-loop2 μ-loop2 Inv-loop3 μ-loop3 Inv-loop4 μ-loop4 Inv-loop μ-loop
+loop-again c = turn-passed (goes (c .before)) (c .match5 .keys2) (unrefused (c .before))
 
-same-length-13 : tie.Need-same-length-13 Inv-loop2 μ-loop2 Inv-loop3 μ-loop3 Inv-loop4 μ-loop4 Inv-loop μ-loop
-same-length-13 c = search rows-kept
+loop-less : tie.Need-loop-less Inv-loop2 μ-loop2 Inv-loop3 μ-loop3 Inv-loop4 μ-loop4 Inv-loop μ-loop
+loop-less c = search falls
 
-returns-13 : tie.Need-returns-13 Inv-loop2 μ-loop2 Inv-loop3 μ-loop3 Inv-loop4 μ-loop4 Inv-loop μ-loop
-returns-13 c = search run-ends
+put-cycle-requires : tie.Need-put-cycle-requires Inv-loop2 μ-loop2 Inv-loop3 μ-loop3 Inv-loop4 μ-loop4 Inv-loop μ-loop
+put-cycle-requires c κs = search needs
+
+left-at-requires : tie.Need-left-at-requires Inv-loop2 μ-loop2 Inv-loop3 μ-loop3 Inv-loop4 μ-loop4 Inv-loop μ-loop
+left-at-requires c κs = search needs
+
+same-length : tie.Need-same-length Inv-loop2 μ-loop2 Inv-loop3 μ-loop3 Inv-loop4 μ-loop4 Inv-loop μ-loop
+same-length c = turn-kept (goes (c .before .before .before .before .before .before .before .before .before)) _ (c .before .before .before .before .before .before .before .w .given .1) _ _ (c .before .before .before .before .put-cycle .ensures)
+
+returns : tie.Need-returns Inv-loop2 μ-loop2 Inv-loop3 μ-loop3 Inv-loop4 μ-loop4 Inv-loop μ-loop
+returns c = turn-full (goes (c .before .before .before .before .before .before .before .before .before)) _ (c .before .before .before .before .before .before .before .w .given .1) _ _ (c .before .before .before .before .put-cycle .ensures) (c .before .if7 .taken) _ (c .left-at .ensures)
+
+loop-again-2 : tie.Need-loop-again-2 Inv-loop2 μ-loop2 Inv-loop3 μ-loop3 Inv-loop4 μ-loop4 Inv-loop μ-loop
+loop-again-2 c = turn-told (goes (c .before .before .before .before .before .before .before .before)) _ (c .before .before .before .before .before .before .w .given .1) _ _ (c .before .before .before .put-cycle .ensures) (c .if7 .left) (unrefused (c .before .before .before .before .before .before .before .before))
+
+loop-less-2 : tie.Need-loop-less-2 Inv-loop2 μ-loop2 Inv-loop3 μ-loop3 Inv-loop4 μ-loop4 Inv-loop μ-loop
+loop-less-2 c = search falls
+
+stop-of-requires : tie.Need-stop-of-requires Inv-loop2 μ-loop2 Inv-loop3 μ-loop3 Inv-loop4 μ-loop4 Inv-loop μ-loop
+stop-of-requires c κs = search needs
+
+left-at-requires-2 : tie.Need-left-at-requires-2 Inv-loop2 μ-loop2 Inv-loop3 μ-loop3 Inv-loop4 μ-loop4 Inv-loop μ-loop
+left-at-requires-2 c κs = search needs
+
+same-length-2 : tie.Need-same-length-2 Inv-loop2 μ-loop2 Inv-loop3 μ-loop3 Inv-loop4 μ-loop4 Inv-loop μ-loop
+same-length-2 c = rows-kept (c .before .before .before .loop .inv .plays .rows)
+
+returns-2 : tie.Need-returns-2 Inv-loop2 μ-loop2 Inv-loop3 μ-loop3 Inv-loop4 μ-loop4 Inv-loop μ-loop
+returns-2 c =
+    let given = c .before .before .before .before .before .before .before .before .before .before .before .before .before .args in
+    let Z = c .before .before .before .loop .inv in
+    ⊎-elim
+    (λ w. run-ends (tableIn (now (given .rows)) (now (given .index))) (now (given .log)) (given .from) (given .g) (now (given .buf)) (given .place) (Z .plays) _ (w .0 .left) (w .1) (Z .none) (c .before .stop-of .ensures) (c .left-at2 .ensures))
+    (⊎-elim
+    (λ w. run-bad (tableIn (now (given .rows)) (now (given .index))) (now (given .log)) (given .from) (given .g) (now (given .buf)) (given .place) (Z .plays) _ _ (w .0 .taken) (w .1 .ensures) _ (w .2 .ensures) (w .4 .given .1) (w .5) (c .before .stop-of .ensures) (c .left-at2 .ensures))
+    (⊎-elim
+    (λ w.
+    let read : tie.After-known-told Inv-loop2 μ-loop2 Inv-loop3 μ-loop3 Inv-loop4 μ-loop4 Inv-loop μ-loop = record { before = record { before = record { before = record { before = record { before = record { before = c .before .before .before; loop-test = w .0 }; next-byte = w .1 }; line-at = w .2 }; match = w .3 }; st = w .4 }; known-told = w .5 } in
+    let number : tie.After-wait-number Inv-loop2 μ-loop2 Inv-loop3 μ-loop3 Inv-loop4 μ-loop4 Inv-loop μ-loop = record { before = record { before = record { before = record { before = record { before = record { before = read; match2 = w .6 }; st2 = w .7 }; known-told2 = w .8 }; loop2 = w .9 }; loop2-test = w .10 }; wait-number = w .11 } in
+    turn-stops (turn read) (is-refusal (waits (number .before .before .before)) (wait-refusal number)) (w .12 .taken) (w .13) (c .before .stop-of .ensures) (c .left-at2 .ensures))
+    (⊎-elim
+    (λ w.
+    let read : tie.After-known-told Inv-loop2 μ-loop2 Inv-loop3 μ-loop3 Inv-loop4 μ-loop4 Inv-loop μ-loop = record { before = record { before = record { before = record { before = record { before = record { before = c .before .before .before; loop-test = w .0 }; next-byte = w .1 }; line-at = w .2 }; match = w .3 }; st = w .4 }; known-told = w .5 } in
+    let number : tie.After-sm-number Inv-loop2 μ-loop2 Inv-loop3 μ-loop3 Inv-loop4 μ-loop4 Inv-loop μ-loop = record { before = record { before = record { before = record { before = record { before = record { before = read; match2 = w .6 }; st3 = w .7 }; known-told5 = w .8 }; row-in = w .9 }; x3 = w .10 }; sm-number = w .11 } in
+    turn-stops (turn read) (manages number .number) (w .12 .taken) (w .13) (c .before .stop-of .ensures) (c .left-at2 .ensures))
+    (⊎-elim
+    (λ w.
+    let read : tie.After-known-told Inv-loop2 μ-loop2 Inv-loop3 μ-loop3 Inv-loop4 μ-loop4 Inv-loop μ-loop = record { before = record { before = record { before = record { before = record { before = record { before = c .before .before .before; loop-test = w .0 }; next-byte = w .1 }; line-at = w .2 }; match = w .3 }; st = w .4 }; known-told = w .5 } in
+    let told : tie.After-task-step Inv-loop2 μ-loop2 Inv-loop3 μ-loop3 Inv-loop4 μ-loop4 Inv-loop μ-loop = record { before = record { before = record { before = record { before = record { before = record { before = record { before = record { before = read; match2 = w .6 }; st4 = w .7 }; known-told6 = w .8 }; row-in2 = w .9 }; x4 = w .10 }; listed2 = w .11 }; is-empty-for = w .12 }; task-step = w .13 } in
+    turn-stops (turn read) (of-task told .number) (w .14 .taken) (w .15) (c .before .stop-of .ensures) (c .left-at2 .ensures))
+    (⊎-elim
+    (λ w.
+    let read : tie.After-known-told Inv-loop2 μ-loop2 Inv-loop3 μ-loop3 Inv-loop4 μ-loop4 Inv-loop μ-loop = record { before = record { before = record { before = record { before = record { before = record { before = c .before .before .before; loop-test = w .0 }; next-byte = w .1 }; line-at = w .2 }; match = w .3 }; st = w .4 }; known-told = w .5 } in
+    turn-stops (turn read) (act-unnamed (turn read) (w .7 .given .1) (w .9 .ensures) (w .10 .taken)) (w .10 .taken) (w .11) (c .before .stop-of .ensures) (c .left-at2 .ensures))
+    (λ w.
+    let read : tie.After-known-told Inv-loop2 μ-loop2 Inv-loop3 μ-loop3 Inv-loop4 μ-loop4 Inv-loop μ-loop = record { before = record { before = record { before = record { before = record { before = record { before = c .before .before .before; loop-test = w .0 }; next-byte = w .1 }; line-at = w .2 }; match = w .3 }; st = w .4 }; known-told = w .5 } in
+    let told : tie.After-local-step Inv-loop2 μ-loop2 Inv-loop3 μ-loop3 Inv-loop4 μ-loop4 Inv-loop μ-loop = record { before = record { before = record { before = record { before = record { before = record { before = record { before = record { before = record { before = record { before = record { before = read; match2 = w .6 }; st5 = w .7 }; known-told7 = w .8 }; check-names = w .9 }; if5 = w .10 }; task-in = w .11 }; x5 = w .12 }; y4 = w .13 }; busy3 = w .14 }; is-clear-for = w .15 }; local-step = w .16 } in
+    turn-stops (turn read) (act-number (of-act told)) (w .17 .taken) (w .18) (c .before .stop-of .ensures) (c .left-at2 .ensures)))))))
+    (c .before .before .loop-test .came)
 
 pub run-spec : {M : Type 1} → statement M
 run-spec =
@@ -628,43 +559,25 @@ run-spec =
     line-at-requires
     enum-known-st
     enum-told
-    left-at-requires
-    same-length
-    returns
     enum-known-st-2
-    in-range-requires
-    left-at-requires-2
-    same-length-2
-    returns-2
     loop2-holds
     mul-x
     element-copy-out-x
+    either-requires
     timer-room-requires
     both-requires
-    add-k
-    enum-told-2
-    either-requires
-    left-at-requires-3
-    same-length-3
-    returns-3
-    loop2-less
-    loop2-again
     enum-known-h
     mul-y
     element-copy-out-y
     slice-aggregate-act-hinders
     act-hinders-requires
-    left-at-requires-4
-    same-length-4
-    returns-4
     act-room-requires
     both-requires-2
-    loop2-less-2
-    loop2-again-2
+    enum-told-2
+    add-k
+    loop2-less
+    loop2-again
     wait-number-requires
-    left-at-requires-5
-    same-length-5
-    returns-5
     loop3-holds
     mul-x-2
     element-copy-out-x-2
@@ -672,32 +585,24 @@ run-spec =
     mul-s
     way-write-given-s
     add-m
-    enum-told-3
-    loop3-less
-    loop3-again
     enum-known-h-2
     mul-y-2
     element-copy-out-y-2
     older-clock-requires
     mul-s-2
     way-write-given-s-2
+    loop3-less
+    loop3-again
+    enum-told-3
     loop3-less-2
     loop3-again-2
     add-s
-    add-at
     after-wait-requires
-    loop-less
-    loop-again
     enum-known-st-3
-    left-at-requires-6
-    same-length-6
-    returns-6
+    row-in-requires
     mul-x-3
     element-copy-out-x-3
     sm-number-requires
-    left-at-requires-7
-    same-length-7
-    returns-7
     acts-end-requires
     acts-begin-requires
     loop4-holds
@@ -715,41 +620,20 @@ run-spec =
     opened-task-requires
     mul-u
     element-set-from-u
-    add-at-2
     after-sm-requires
-    loop-less-2
-    loop-again-2
     enum-known-st-4
-    left-at-requires-8
-    same-length-8
-    returns-8
+    row-in-requires-2
     mul-x-4
     element-copy-out-x-4
     slice-aggregate-is-empty-for
     is-empty-for-requires
     task-step-requires
-    left-at-requires-9
-    same-length-9
-    returns-9
     mul-u-2
     element-set-from-u-2
     ruling-of-requires
-    add-at-3
     after-step-requires
-    enum-known-w
-    loop-less-3
-    loop-again-3
-    put-cycle-requires
-    left-at-requires-10
-    same-length-10
-    returns-10
-    loop-less-4
-    loop-again-4
     enum-known-st-5
     check-names-requires
-    left-at-requires-11
-    same-length-11
-    returns-11
     task-in-requires
     mul-x-5
     element-copy-out-x-5
@@ -758,9 +642,6 @@ run-spec =
     slice-aggregate-is-clear-for
     is-clear-for-requires
     local-step-requires
-    left-at-requires-12
-    same-length-12
-    returns-12
     mul-u-3
     element-set-from-u-3
     mul-v-2
@@ -771,10 +652,18 @@ run-spec =
     listed-of-requires-2
     mul-listed-2
     array-write-listed-2
-    add-at-4
     after-step-requires-2
-    loop-less-5
-    loop-again-5
-    left-at-requires-13
-    same-length-13
-    returns-13)
+    add-at
+    enum-known-w
+    loop-less
+    loop-again
+    put-cycle-requires
+    left-at-requires
+    same-length
+    returns
+    loop-less-2
+    loop-again-2
+    stop-of-requires
+    left-at-requires-2
+    same-length-2
+    returns-2)

@@ -4,7 +4,7 @@ use mathlib.Core.Path.{sym}
 use native.Mathlib.Omega.{arith}
 use lib.ListN.{length-replicate}
 use borrow.Author.Needs.{needs}
-use Rattle.log.proofs.Turns.{part-long}
+use Rattle.text.proofs.Seeking.{part-long}
 use Rattle.streaming.proofs.Turning.{put-within}
 use Rattle.judge.proofs.Blocks.{Reading, reading-start, reading-roomy, reading-small, reading-more}
 use Rattle.judge.proofs.judge_blocks.Statement.{statement}

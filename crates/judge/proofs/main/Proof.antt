@@ -1,7 +1,7 @@
 -- `main` is safe: what is told and what is held lie within what they stand in, and the table is accepted where the log is judged against it.
 use native.Mathlib.Omega.{arith}
 use borrow.Author.Needs.{needs}
-use Rattle.log.proofs.Turns.{part-long}
+use Rattle.text.proofs.Seeking.{part-long}
 use Rattle.report.proofs.Lines.{put-length}
 use Rattle.streaming.proofs.Turning.{put-within}
 use Rattle.streaming.proofs.Opening.{opened-accepted}

@@ -4,7 +4,7 @@ use mathlib.Core.Bool.{not}
 use mathlib.Core.Path.{_≡_}
 use lib.ListN.{length}
 use borrow.Author.Needs.{needs}
-use Rattle.log.proofs.Turns.{part-long}
+use Rattle.text.proofs.Seeking.{part-long}
 use Rattle.model.specs.Tests.{one}
 use Rattle.judge.proofs.Blocks.{start-known, start-less}
 use Rattle.judge.proofs.read_start.Statement.{statement}

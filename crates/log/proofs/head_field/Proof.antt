@@ -1,7 +1,8 @@
 -- `head_field` meets its contract.
 use native.Mathlib.Omega.{arith}
 use borrow.Author.Needs.{needs}
-use Rattle.text.proofs.Turns.{part-ends, behind-gone, behind-bad, behind-is}
+use Rattle.text.proofs.Seeking.{part-ends}
+use Rattle.text.proofs.Fields.{behind-gone, behind-bad, behind-is}
 use Rattle.log.proofs.head_field.Statement.{statement}
 use Rattle.log.proofs.head_field.Tie as tie
 
@@ -14,17 +15,17 @@ add-a c = search needs
 next-byte-requires : tie.Need-next-byte-requires
 next-byte-requires c κs = search needs
 
-sub-read-form : tie.Need-sub-read-form
-sub-read-form c = search needs
+sub-read-number : tie.Need-sub-read-number
+sub-read-number c = search needs
 
-part-read-form-start : tie.Need-part-read-form-start
-part-read-form-start c = search needs
+part-read-number-start : tie.Need-part-read-number-start
+part-read-number-start c = search needs
 
-part-read-form-end : tie.Need-part-read-form-end
-part-read-form-end c = part-ends _ _ _ 9 (omega arith) (c .next-byte .ensures)
+part-read-number-end : tie.Need-part-read-number-end
+part-read-number-end c = part-ends _ _ _ 9 (omega arith) (c .next-byte .ensures)
 
-read-form-requires : tie.Need-read-form-requires
-read-form-requires c κs = search needs
+read-number-requires : tie.Need-read-number-requires
+read-number-requires c κs = search needs
 
 enum-known-v : tie.Need-enum-known-v
 enum-known-v c = search needs
@@ -45,10 +46,10 @@ head-field-spec =
     returns
     add-a
     next-byte-requires
-    sub-read-form
-    part-read-form-start
-    part-read-form-end
-    read-form-requires
+    sub-read-number
+    part-read-number-start
+    part-read-number-end
+    read-number-requires
     enum-known-v
     enum-told
     returns-2

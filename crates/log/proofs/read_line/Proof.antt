@@ -3,8 +3,8 @@ use Prim.Native.Nat.{_≤_}
 use native.Mathlib.Omega.{arith}
 use lib.ListN.{length}
 use borrow.Author.Needs.{needs}
-use Rattle.text.proofs.Turns.{first-ends}
-use Rattle.log.proofs.Turns.{first-long, line-none, line-one}
+use Rattle.text.proofs.Seeking.{first-ends}
+use Rattle.log.proofs.Reading.{first-long, line-none, line-one}
 use Rattle.log.proofs.read_line.Statement.{statement}
 use Rattle.log.proofs.read_line.Tie as tie
 

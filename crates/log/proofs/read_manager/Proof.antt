@@ -1,7 +1,7 @@
 -- `read_manager` meets its contract.
 use borrow.Author.Needs.{needs}
-use Rattle.text.proofs.Turns.{behind-ends}
-use Rattle.log.proofs.Turns.{headed-bad, headed-is, given-bad, given-is}
+use Rattle.log.proofs.Fielding.{headed-bad, headed-is}
+use Rattle.log.proofs.Lists.{lists-gone, lists-rest}
 use Rattle.log.proofs.read_manager.Statement.{statement}
 use Rattle.log.proofs.read_manager.Tie as tie
 
@@ -15,34 +15,28 @@ enum-told : tie.Need-enum-told
 enum-told c = search needs
 
 returns : tie.Need-returns
-returns c = search (headed-bad)
-
-head-field-requires-2 : tie.Need-head-field-requires-2
-head-field-requires-2 c κs = search (behind-ends)
-
-enum-known-n : tie.Need-enum-known-n
-enum-known-n c = search needs
-
-enum-told-2 : tie.Need-enum-told-2
-enum-told-2 c = search needs
+returns c = search headed-bad
 
 returns-2 : tie.Need-returns-2
-returns-2 c = search (headed-bad, headed-is)
+returns-2 c = search (headed-is, lists-gone)
 
-only-field-requires : tie.Need-only-field-requires
-only-field-requires c κs = search (behind-ends)
+add-a : tie.Need-add-a
+add-a c = search needs
 
-enum-known-r : tie.Need-enum-known-r
-enum-known-r c = search needs
+sub-read-sets : tie.Need-sub-read-sets
+sub-read-sets c = search needs
 
-enum-told-3 : tie.Need-enum-told-3
-enum-told-3 c = search needs
+part-read-sets-start : tie.Need-part-read-sets-start
+part-read-sets-start c = search needs
+
+part-read-sets-end : tie.Need-part-read-sets-end
+part-read-sets-end c = search needs
+
+read-sets-requires : tie.Need-read-sets-requires
+read-sets-requires c κs = search needs
 
 returns-3 : tie.Need-returns-3
-returns-3 c = search (headed-is, given-bad)
-
-returns-4 : tie.Need-returns-4
-returns-4 c = search (headed-is, given-is)
+returns-3 c = search (headed-is, lists-rest)
 
 pub read-manager-spec : {M : Type 1} → statement M
 read-manager-spec =
@@ -52,12 +46,10 @@ read-manager-spec =
     enum-known-t
     enum-told
     returns
-    head-field-requires-2
-    enum-known-n
-    enum-told-2
     returns-2
-    only-field-requires
-    enum-known-r
-    enum-told-3
-    returns-3
-    returns-4)
+    add-a
+    sub-read-sets
+    part-read-sets-start
+    part-read-sets-end
+    read-sets-requires
+    returns-3)

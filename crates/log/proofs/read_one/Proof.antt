@@ -1,6 +1,6 @@
 -- `read_one` meets its contract.
 use borrow.Author.Needs.{needs}
-use Rattle.log.proofs.Turns.{given-bad, given-is}
+use Rattle.log.proofs.Fielding.{given-bad, given-is}
 use Rattle.log.proofs.read_one.Statement.{statement}
 use Rattle.log.proofs.read_one.Tie as tie
 

@@ -1,7 +1,7 @@
 -- `read_short` meets its contract.
 use borrow.Author.Needs.{needs}
 use Rattle.log.proofs.Words.{letters}
-use Rattle.log.proofs.Turns.{word-none, word-is, word-sm, word-two, word-fa, word-one}
+use Rattle.log.proofs.Reading.{word-none, word-is, word-sm, word-two, word-fa, word-one}
 use Rattle.log.proofs.read_short.Statement.{statement}
 use Rattle.log.proofs.read_short.Tie as tie
 

@@ -1,12 +1,14 @@
 -- `read_step` meets its contract.
 use native.Mathlib.Omega.{arith}
 use borrow.Author.Needs.{needs}
-use Rattle.log.proofs.Turns.{given-bad, given-is, part-long, step-long, step-few, step-short, step-other, step-wait, step-two}
+use Rattle.text.proofs.Seeking.{part-long}
+use Rattle.log.proofs.Fielding.{given-bad, given-is}
+use Rattle.log.proofs.Reading.{step-long, step-few, step-short, step-other, step-wait, step-two}
 use Rattle.log.proofs.read_step.Statement.{statement}
 use Rattle.log.proofs.read_step.Tie as tie
 
 returns : tie.Need-returns
-returns c = step-long _ (omega (arith, c .if1 .taken))
+returns c = step-long _ _ (omega (arith, c .if1 .taken))
 
 returns-2 : tie.Need-returns-2
 returns-2 c = search (step-few)

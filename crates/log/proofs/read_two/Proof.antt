@@ -1,7 +1,7 @@
 -- `read_two` meets its contract.
 use borrow.Author.Needs.{needs}
-use Rattle.text.proofs.Turns.{behind-ends}
-use Rattle.log.proofs.Turns.{headed-bad, headed-is, given-bad, given-is, two-lm, two-ea}
+use Rattle.text.proofs.Fields.{behind-ends}
+use Rattle.log.proofs.Fielding.{headed-bad, headed-is, given-bad, given-is, two-lm, two-ea}
 use Rattle.log.proofs.read_two.Statement.{statement}
 use Rattle.log.proofs.read_two.Tie as tie
 

@@ -37,35 +37,11 @@ rows-begin-requires c κs = omega (arith, most-codels)
 loop-holds : tie.Need-loop-holds Inv-loop μ-loop
 loop-holds c = search (needs, edges-end, passed-none)
 
-mul-if1 : tie.Need-mul-if1 Inv-loop μ-loop
-mul-if1 c = omega arith
+number-requires : tie.Need-number-requires Inv-loop μ-loop
+number-requires c κs = omega arith
 
-add-if1 : tie.Need-add-if1 Inv-loop μ-loop
-add-if1 c = omega arith
-
-add-if1-2 : tie.Need-add-if1-2 Inv-loop μ-loop
-add-if1-2 c = omega arith
-
-mul-if1-2 : tie.Need-mul-if1-2 Inv-loop μ-loop
-mul-if1-2 c = omega arith
-
-shared-slice-read-if1 : tie.Need-shared-slice-read-if1 Inv-loop μ-loop
-shared-slice-read-if1 c = omega arith
-
-mul-is-mode : tie.Need-mul-is-mode Inv-loop μ-loop
-mul-is-mode c = omega arith
-
-add-is-mode : tie.Need-add-is-mode Inv-loop μ-loop
-add-is-mode c = omega arith
-
-add-is-mode-2 : tie.Need-add-is-mode-2 Inv-loop μ-loop
-add-is-mode-2 c = omega arith
-
-mul-is-mode-2 : tie.Need-mul-is-mode-2 Inv-loop μ-loop
-mul-is-mode-2 c = omega arith
-
-shared-slice-read-is-mode : tie.Need-shared-slice-read-is-mode Inv-loop μ-loop
-shared-slice-read-is-mode c = omega arith
+number-requires-2 : tie.Need-number-requires-2 Inv-loop μ-loop
+number-requires-2 c κs = omega arith
 
 is-mode-requires : tie.Need-is-mode-requires Inv-loop μ-loop
 is-mode-requires c κs = search needs
@@ -80,7 +56,17 @@ loop-less : tie.Need-loop-less Inv-loop μ-loop
 loop-less c = omega arith
 
 loop-again : tie.Need-loop-again Inv-loop μ-loop
-loop-again c = (omega arith, omega arith, passed-more _ _ _ (c .before .before .before .loop .inv .2) (⊎-elim (λ w. search (edge-same)) (λ w. search (edge-other)) (c .if1 .came)))
+loop-again c =
+    let turn = c .before .before .before in
+    let start = turn .before .before .before .before .before .before .before in (
+      omega arith,
+      omega arith,
+      passed-more _ _ _ (turn .loop .inv .2)
+          (⊎-elim
+          (λ w. edge-same (start .args .rows .now) _ _ (turn .loop .e) _ (c .before .number .ensures) (w .0 .taken) _ (w .1 .ensures) _ _ (w .2 .ensures) (w .3 .left))
+          (λ w. edge-other (start .args .rows .now) _ _ (turn .loop .e) _ (c .before .number .ensures) (w .left))
+          (c .if1 .came)),
+    )
 
 returns-2 : tie.Need-returns-2 Inv-loop μ-loop
 returns-2 c = search (edge-absent)
@@ -98,16 +84,8 @@ has-edge-spec =
     size-requires
     rows-begin-requires
     loop-holds
-    mul-if1
-    add-if1
-    add-if1-2
-    mul-if1-2
-    shared-slice-read-if1
-    mul-is-mode
-    add-is-mode
-    add-is-mode-2
-    mul-is-mode-2
-    shared-slice-read-is-mode
+    number-requires
+    number-requires-2
     is-mode-requires
     returns
     add-e

@@ -42,20 +42,8 @@ size-requires-2 c κs = search needs
 loop-holds : tie.Need-loop-holds Inv-loop μ-loop
 loop-holds c = search (needs, pairs-end, passed-none)
 
-mul-size-3 : tie.Need-mul-size-3 Inv-loop μ-loop
-mul-size-3 c = omega arith
-
-add-size-3 : tie.Need-add-size-3 Inv-loop μ-loop
-add-size-3 c = omega arith
-
-add-size-4 : tie.Need-add-size-4 Inv-loop μ-loop
-add-size-4 c = omega arith
-
-mul-size-4 : tie.Need-mul-size-4 Inv-loop μ-loop
-mul-size-4 c = omega arith
-
-shared-slice-read-size-3 : tie.Need-shared-slice-read-size-3 Inv-loop μ-loop
-shared-slice-read-size-3 c = omega arith
+number-requires : tie.Need-number-requires Inv-loop μ-loop
+number-requires c κs = omega arith
 
 size-requires-3 : tie.Need-size-requires-3 Inv-loop μ-loop
 size-requires-3 c κs = search needs
@@ -90,11 +78,7 @@ has-pair-spec =
     shared-slice-read-size-2
     size-requires-2
     loop-holds
-    mul-size-3
-    add-size-3
-    add-size-4
-    mul-size-4
-    shared-slice-read-size-3
+    number-requires
     size-requires-3
     returns
     add-m

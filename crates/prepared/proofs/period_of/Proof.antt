@@ -1,25 +1,21 @@
 -- `period_of` meets its contract.
 use native.Mathlib.Omega.{arith}
 use borrow.Author.Needs.{needs}
-use Rattle.prepared.proofs.Stored.{most-tasks, period-at}
+use Rattle.row.specs.Kinds.{formOf}
+use Rattle.table.specs.Tables.{tableOf}
+use Rattle.prepared.proofs.Stored.{most-tasks, number-is}
 use Rattle.prepared.proofs.period_of.Statement.{statement}
 use Rattle.prepared.proofs.period_of.Tie as tie
 
-mul-wide : tie.Need-mul-wide
-mul-wide c = omega (arith, most-tasks)
-
-mul-wide-2 : tie.Need-mul-wide-2
-mul-wide-2 c = omega (arith, most-tasks)
-
-shared-slice-read-wide : tie.Need-shared-slice-read-wide
-shared-slice-read-wide c = omega (arith, most-tasks)
+number-requires : tie.Need-number-requires
+number-requires c κs = omega (arith, most-tasks)
 
 wide-requires : tie.Need-wide-requires
 wide-requires c κs = search needs
 
 returns : tie.Need-returns
-returns c = search (period-at)
+unfolding tableOf formOf
+returns c = search (needs, number-is)
 
 pub period-of-spec : {M : Type 1} → statement M
-period-of-spec =
-    tie.close (tie.spec mul-wide mul-wide-2 shared-slice-read-wide wide-requires returns)
+period-of-spec = tie.close (tie.spec number-requires wide-requires returns)

@@ -1,28 +1,21 @@
 -- `task_of` meets its contract.
 use native.Mathlib.Omega.{arith}
 use borrow.Author.Needs.{needs}
-use Rattle.prepared.proofs.Stored.{most-acts, task-at}
+use Rattle.row.specs.Kinds.{formOf}
+use Rattle.table.specs.Tables.{tableOf}
+use Rattle.prepared.proofs.Stored.{most-acts, number-is}
 use Rattle.prepared.proofs.task_of.Statement.{statement}
 use Rattle.prepared.proofs.task_of.Tie as tie
 
-mul-size : tie.Need-mul-size
-mul-size c = omega (arith, most-acts)
-
-add-size : tie.Need-add-size
-add-size c = omega (arith, most-acts)
-
-mul-size-2 : tie.Need-mul-size-2
-mul-size-2 c = omega (arith, most-acts)
-
-shared-slice-read-size : tie.Need-shared-slice-read-size
-shared-slice-read-size c = omega (arith, most-acts)
+number-requires : tie.Need-number-requires
+number-requires c κs = omega (arith, most-acts)
 
 size-requires : tie.Need-size-requires
 size-requires c κs = search needs
 
 returns : tie.Need-returns
-returns c = search (task-at)
+unfolding tableOf formOf
+returns c = search (needs, number-is)
 
 pub task-of-spec : {M : Type 1} → statement M
-task-of-spec =
-    tie.close (tie.spec mul-size add-size mul-size-2 shared-slice-read-size size-requires returns)
+task-of-spec = tie.close (tie.spec number-requires size-requires returns)

@@ -5,7 +5,7 @@ use native.Mathlib.Omega.{arith}
 use borrow.Author.Needs.{needs}
 use lib.ListN.{length, length-set}
 use Rattle.preparing.specs.Filling.{filled}
-use Rattle.preparing.proofs.Turns.{filled-more}
+use Rattle.preparing.proofs.Filling.{filled-more}
 use Rattle.preparing.proofs.fill.Statement.{statement}
 use Rattle.preparing.proofs.fill.Tie as tie
 

@@ -1,16 +1,17 @@
 -- `preparing::note_ends` meets its contract. The loop's invariant: the first e rows are noted.
-use Prim.Native.Nat.{_≤_, _-_, _+_, _*_}
-use mathlib.Core.Path.{_≡_, refl}
+use Prim.Native.Nat.{_≤_, _-_}
+use mathlib.Core.Path.{_≡_, refl, _∙_}
 use native.Mathlib.Omega.{arith}
 use borrow.Author.Needs.{needs}
-use lib.ListN.{length, getD, length-set}
+use lib.ListN.{length, length-set}
+use Rattle.prepared.specs.Prepared.{numberIn}
 use Rattle.preparing.specs.Filling.{ended}
-use Rattle.preparing.proofs.Turns.{ended-more}
+use Rattle.preparing.proofs.Filling.{ended-more}
 use Rattle.preparing.proofs.note_ends.Statement.{statement}
 use Rattle.preparing.proofs.note_ends.Tie as tie
 
 abbrev Inv-loop : tie.InvT-loop
-Inv-loop rows from n index₀ at e₀ index e = (e ≤ n) × (length index ≡ length index₀) × (index ≡ ended (λ i. getD rows (from + 3 * i) 0) at index₀ e)
+Inv-loop rows from n index₀ at e₀ index e = (e ≤ n) × (length index ≡ length index₀) × (index ≡ ended (λ i. numberIn rows from i 0) at index₀ e)
 
 abbrev μ-loop : tie.MeasureT-loop
 μ-loop rows from n index₀ at e₀ index e = n - e
@@ -19,17 +20,8 @@ loop-holds : tie.Need-loop-holds Inv-loop μ-loop
 unfolding ended
 loop-holds c = (omega arith, refl, refl)
 
-mul-size : tie.Need-mul-size Inv-loop μ-loop
-mul-size c = record { fits = omega (arith, c .before .before .before .before .pre .1 (c .before .loop .e) (omega arith)) }
-
-add-size : tie.Need-add-size Inv-loop μ-loop
-add-size c = record { fits = omega (arith, c .before .before .before .before .pre .1 (c .before .loop .e) (omega arith)) }
-
-mul-size-2 : tie.Need-mul-size-2 Inv-loop μ-loop
-mul-size-2 c = record { fits = omega (arith, c .before .before .before .before .pre .1 (c .before .loop .e) (omega arith)) }
-
-shared-slice-read-size : tie.Need-shared-slice-read-size Inv-loop μ-loop
-shared-slice-read-size c = omega (arith, c .before .before .before .before .before .pre .1 (c .before .before .loop .e) (omega arith))
+number-requires : tie.Need-number-requires Inv-loop μ-loop
+number-requires c κs = c .before .before .before .before .pre .1 (c .before .loop .e) (omega arith) .0
 
 size-requires : tie.Need-size-requires Inv-loop μ-loop
 size-requires c κs = search needs
@@ -53,7 +45,7 @@ loop-less : tie.Need-loop-less Inv-loop μ-loop
 loop-less c = search needs
 
 loop-again : tie.Need-loop-again Inv-loop μ-loop
-loop-again c = (omega arith, simp length-set (c .before .before .before .loop .inv .1), ended-more _ _ _ _ _ _ (c .size .ensures) (c .before .before .before .loop .inv .2))
+loop-again c = (omega arith, simp length-set (c .before .before .before .loop .inv .1), ended-more _ _ _ _ _ _ (c .size .ensures ∙ c .before .number .ensures) (c .before .before .before .loop .inv .2))
 
 same-length : tie.Need-same-length Inv-loop μ-loop
 same-length c = search needs
@@ -68,10 +60,7 @@ note-ends-spec =
     Inv-loop
     μ-loop
     loop-holds
-    mul-size
-    add-size
-    mul-size-2
-    shared-slice-read-size
+    number-requires
     size-requires
     add-e
     cast-index

@@ -1,6 +1,6 @@
 -- `preparing::note_kinds` meets its contract. The loop's invariant: the first c codels are noted.
 use Prim.Native.Nat.{_≤_, _-_}
-use mathlib.Core.Path.{_≡_, refl}
+use mathlib.Core.Path.{_≡_, refl, _∙_}
 use native.Mathlib.Omega.{arith}
 use borrow.Author.Needs.{needs}
 use lib.ListN.{length, getD, length-set}
@@ -9,7 +9,7 @@ use Rattle.table.specs.Tables.{made, tableOf}
 use Rattle.prepared.specs.Prepared.{indexLength}
 use Rattle.preparing.specs.Filling.{kindsNoted}
 use Rattle.preparing.proofs.Cells.{most-codels, owner-low, placed-low}
-use Rattle.preparing.proofs.Turns.{kinds-more}
+use Rattle.preparing.proofs.Filling.{kinds-more}
 use Rattle.preparing.proofs.note_kinds.Statement.{statement}
 use Rattle.preparing.proofs.note_kinds.Tie as tie
 
@@ -26,47 +26,26 @@ loop-holds c = (omega arith, most-codels (c .before .before .pre .0), c .before 
 array-read-loop : tie.Need-array-read-loop Inv-loop μ-loop
 array-read-loop c = search needs
 
-mul-size : tie.Need-mul-size Inv-loop μ-loop
-mul-size c = search needs
-
-add-size : tie.Need-add-size Inv-loop μ-loop
-add-size c = search needs
-
-mul-size-2 : tie.Need-mul-size-2 Inv-loop μ-loop
-mul-size-2 c = search needs
-
-shared-slice-read-size : tie.Need-shared-slice-read-size Inv-loop μ-loop
-shared-slice-read-size c = search needs
+number-requires : tie.Need-number-requires Inv-loop μ-loop
+number-requires c κs = search needs
 
 size-requires : tie.Need-size-requires Inv-loop μ-loop
 size-requires c κs = search needs
 
-mul-kind-place : tie.Need-mul-kind-place Inv-loop μ-loop
-mul-kind-place c = search needs
-
-add-kind-place : tie.Need-add-kind-place Inv-loop μ-loop
-add-kind-place c = search needs
-
-add-kind-place-2 : tie.Need-add-kind-place-2 Inv-loop μ-loop
-add-kind-place-2 c = search needs
-
-mul-kind-place-2 : tie.Need-mul-kind-place-2 Inv-loop μ-loop
-mul-kind-place-2 c = search needs
-
-shared-slice-read-kind-place : tie.Need-shared-slice-read-kind-place Inv-loop μ-loop
-shared-slice-read-kind-place c = search needs
+number-requires-2 : tie.Need-number-requires-2 Inv-loop μ-loop
+number-requires-2 c κs = search needs
 
 kind-place-requires : tie.Need-kind-place-requires Inv-loop μ-loop
-kind-place-requires c κs = owner-low (c .before .before .before .before .before .before .before .pre .0) (c .before .before .before .before .loop .c) _ (omega arith) (c .before .size .ensures)
+kind-place-requires c κs = owner-low (c .before .before .before .before .before .before .before .pre .0) (c .before .before .before .before .loop .c) _ (omega arith) (c .before .size .ensures ∙ c .before .before .number .ensures)
 
 cast-index : tie.Need-cast-index Inv-loop μ-loop
 cast-index c = search needs
 
 mul-index : tie.Need-mul-index Inv-loop μ-loop
-mul-index c = record { fits = omega (arith, placed-low (c .before .before .before .before .before .before .before .before .pre .0) (c .before .before .before .before .before .loop .c) _ _ (omega arith) (c .before .before .size .ensures) (c .kind-place .ensures)) }
+mul-index c = record { fits = omega (arith, placed-low (c .before .before .before .before .before .before .before .before .pre .0) (c .before .before .before .before .before .loop .c) _ (c .before .number2 .result) _ (omega arith) (c .before .before .size .ensures ∙ c .before .before .before .number .ensures) (c .kind-place .ensures)) }
 
 slice-write-index : tie.Need-slice-write-index Inv-loop μ-loop
-slice-write-index c = omega (arith, placed-low (c .before .before .before .before .before .before .before .before .pre .0) (c .before .before .before .before .before .loop .c) _ _ (omega arith) (c .before .before .size .ensures) (c .kind-place .ensures))
+slice-write-index c = omega (arith, placed-low (c .before .before .before .before .before .before .before .before .pre .0) (c .before .before .before .before .before .loop .c) _ (c .before .number2 .result) _ (omega arith) (c .before .before .size .ensures ∙ c .before .before .before .number .ensures) (c .kind-place .ensures))
 
 add-c : tie.Need-add-c Inv-loop μ-loop
 add-c c = search needs
@@ -75,7 +54,7 @@ loop-less : tie.Need-loop-less Inv-loop μ-loop
 loop-less c = search needs
 
 loop-again : tie.Need-loop-again Inv-loop μ-loop
-loop-again c = (omega arith, omega arith, simp length-set (c .before .before .before .before .before .loop .inv .2), kinds-more (c .before .before .before .before .before .before .before .before .pre .0) _ _ _ _ _ (omega arith) (c .before .before .size .ensures) (c .kind-place .ensures) (c .before .before .before .before .before .loop .inv .3))
+loop-again c = (omega arith, omega arith, simp length-set (c .before .before .before .before .before .loop .inv .2), kinds-more (c .before .before .before .before .before .before .before .before .pre .0) _ _ _ _ _ _ (omega arith) (c .before .before .size .ensures ∙ c .before .before .before .number .ensures) (c .before .number2 .ensures) (c .kind-place .ensures) (c .before .before .before .before .before .loop .inv .3))
 
 same-length : tie.Need-same-length Inv-loop μ-loop
 same-length c = search needs
@@ -92,16 +71,9 @@ note-kinds-spec =
     μ-loop
     loop-holds
     array-read-loop
-    mul-size
-    add-size
-    mul-size-2
-    shared-slice-read-size
+    number-requires
     size-requires
-    mul-kind-place
-    add-kind-place
-    add-kind-place-2
-    mul-kind-place-2
-    shared-slice-read-kind-place
+    number-requires-2
     kind-place-requires
     cast-index
     mul-index

@@ -9,7 +9,7 @@ use Rattle.table.specs.Tables.{made, tableOf}
 use Rattle.prepared.specs.Prepared.{indexLength}
 use Rattle.preparing.specs.Filling.{pairsNoted}
 use Rattle.preparing.proofs.Cells.{most-mutexes, lo-low, hi-low}
-use Rattle.preparing.proofs.Turns.{pairs-more}
+use Rattle.preparing.proofs.Filling.{pairs-more}
 use Rattle.preparing.proofs.note_pairs.Statement.{statement}
 use Rattle.preparing.proofs.note_pairs.Tie as tie
 
@@ -26,41 +26,20 @@ loop-holds c = (omega arith, most-mutexes (c .before .before .pre .0), c .before
 array-read-loop : tie.Need-array-read-loop Inv-loop μ-loop
 array-read-loop c = search needs
 
-mul-size : tie.Need-mul-size Inv-loop μ-loop
-mul-size c = search needs
-
-add-size : tie.Need-add-size Inv-loop μ-loop
-add-size c = search needs
-
-mul-size-2 : tie.Need-mul-size-2 Inv-loop μ-loop
-mul-size-2 c = search needs
-
-shared-slice-read-size : tie.Need-shared-slice-read-size Inv-loop μ-loop
-shared-slice-read-size c = search needs
+number-requires : tie.Need-number-requires Inv-loop μ-loop
+number-requires c κs = search needs
 
 size-requires : tie.Need-size-requires Inv-loop μ-loop
 size-requires c κs = search needs
 
-mul-size-3 : tie.Need-mul-size-3 Inv-loop μ-loop
-mul-size-3 c = search needs
-
-add-size-2 : tie.Need-add-size-2 Inv-loop μ-loop
-add-size-2 c = search needs
-
-add-size-3 : tie.Need-add-size-3 Inv-loop μ-loop
-add-size-3 c = search needs
-
-mul-size-4 : tie.Need-mul-size-4 Inv-loop μ-loop
-mul-size-4 c = search needs
-
-shared-slice-read-size-2 : tie.Need-shared-slice-read-size-2 Inv-loop μ-loop
-shared-slice-read-size-2 c = search needs
+number-requires-2 : tie.Need-number-requires-2 Inv-loop μ-loop
+number-requires-2 c κs = search needs
 
 size-requires-2 : tie.Need-size-requires-2 Inv-loop μ-loop
 size-requires-2 c κs = search needs
 
 note-pair-requires : tie.Need-note-pair-requires Inv-loop μ-loop
-note-pair-requires c κs = (c .before .before .before .before .before .before .loop .inv .2, omega arith, lo-low (c .before .before .before .before .before .before .before .before .before .pre .0) (c .before .before .before .before .before .before .loop .m) _ (omega arith) (c .before .before .before .size .ensures), hi-low (c .before .before .before .before .before .before .before .before .before .pre .0) (c .before .before .before .before .before .before .loop .m) _ (omega arith) (c .before .size2 .ensures))
+note-pair-requires c κs = (c .before .before .before .before .before .before .loop .inv .2, omega arith, lo-low (c .before .before .before .before .before .before .before .before .before .pre .0) (c .before .before .before .before .before .before .loop .m) _ (omega arith) (c .before .before .before .size .ensures ∙ c .before .before .before .before .number .ensures), hi-low (c .before .before .before .before .before .before .before .before .before .pre .0) (c .before .before .before .before .before .before .loop .m) _ (omega arith) (c .before .size2 .ensures ∙ c .before .before .number2 .ensures))
 
 add-m : tie.Need-add-m Inv-loop μ-loop
 add-m c = search needs
@@ -69,7 +48,7 @@ loop-less : tie.Need-loop-less Inv-loop μ-loop
 loop-less c = search needs
 
 loop-again : tie.Need-loop-again Inv-loop μ-loop
-loop-again c = (omega arith, omega arith, ap length (c .before .before .note-pair .ensures) ∙ simp length-set (c .before .before .before .before .before .before .before .before .before .loop .inv .2), c .before .before .note-pair .ensures ∙ pairs-more (c .before .before .before .before .before .before .before .before .before .before .before .before .pre .0) _ _ (c .before .before .before .before .before .before .before .before .before .loop .m) _ _ (omega arith) (c .before .before .before .before .before .before .size .ensures) (c .before .before .before .before .size2 .ensures) (c .before .before .before .before .before .before .before .before .before .loop .inv .3))
+loop-again c = (omega arith, omega arith, ap length (c .before .before .note-pair .ensures) ∙ simp length-set (c .before .before .before .before .before .before .before .before .before .loop .inv .2), c .before .before .note-pair .ensures ∙ pairs-more (c .before .before .before .before .before .before .before .before .before .before .before .before .pre .0) _ _ (c .before .before .before .before .before .before .before .before .before .loop .m) _ _ (omega arith) (c .before .before .before .before .before .before .size .ensures ∙ c .before .before .before .before .before .before .before .number .ensures) (c .before .before .before .before .size2 .ensures ∙ c .before .before .before .before .before .number2 .ensures) (c .before .before .before .before .before .before .before .before .before .loop .inv .3))
 
 same-length : tie.Need-same-length Inv-loop μ-loop
 same-length c = search needs
@@ -86,16 +65,9 @@ note-pairs-spec =
     μ-loop
     loop-holds
     array-read-loop
-    mul-size
-    add-size
-    mul-size-2
-    shared-slice-read-size
+    number-requires
     size-requires
-    mul-size-3
-    add-size-2
-    add-size-3
-    mul-size-4
-    shared-slice-read-size-2
+    number-requires-2
     size-requires-2
     note-pair-requires
     add-m

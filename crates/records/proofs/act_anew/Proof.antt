@@ -6,8 +6,11 @@ use Rattle.records.proofs.act_anew.Tie as tie
 place-anew-requires : tie.Need-place-anew-requires
 place-anew-requires c κs = search needs
 
+at-place-requires : tie.Need-at-place-requires
+at-place-requires c κs = search needs
+
 returns : tie.Need-returns
-returns c = rw (c .place-anew .ensures)
+returns c = rw (c .at-place .ensures, c .before .place-anew .ensures)
 
 pub act-anew-spec : {M : Type 1} → statement M
-act-anew-spec = tie.close (tie.spec place-anew-requires returns)
+act-anew-spec = tie.close (tie.spec place-anew-requires at-place-requires returns)

@@ -1,8 +1,9 @@
 -- `field_behind` meets its contract.
 use native.Mathlib.Omega.{arith}
 use borrow.Author.Needs.{needs}
-use Rattle.text.proofs.Turns.{part-ends, behind-gone, behind-bad, behind-is}
-use Rattle.row.proofs.Turns.{behind-none, behind-some}
+use Rattle.text.proofs.Seeking.{part-ends}
+use Rattle.text.proofs.Fields.{behind-gone, behind-bad, behind-is}
+use Rattle.row.proofs.Reading.{behind-none, behind-some}
 use Rattle.row.proofs.field_behind.Statement.{statement}
 use Rattle.row.proofs.field_behind.Tie as tie
 

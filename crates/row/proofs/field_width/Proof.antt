@@ -3,7 +3,7 @@ use mathlib.Core.Path.{refl}
 use native.Mathlib.Omega.{arith}
 use borrow.Author.Needs.{needs}
 use Rattle.row.proofs.Fields.{value-within}
-use Rattle.row.proofs.Turns.{tabbed-none, tabbed-some}
+use Rattle.row.proofs.Values.{tabbed-none, tabbed-some}
 use Rattle.row.proofs.field_width.Statement.{statement}
 use Rattle.row.proofs.field_width.Tie as tie
 

@@ -1,8 +1,9 @@
 -- `kind_in` meets its contract. Looking among the kinds left gives what looking among all gives.
 use borrow.Author.Needs.{needs}
-use Prim.Native.Nat.{_-_}
+use Prim.Native.Nat.{_+_, _-_}
+use Rattle.row.specs.Kinds.{endKind}
 use Rattle.row.proofs.Tables.{entry-room}
-use Rattle.row.proofs.Turns.{Looking, look-start, look-end, look-found, look-on}
+use Rattle.row.proofs.Reading.{Looking, look-start, look-end, look-found, look-on}
 use Rattle.row.proofs.kind_in.Statement.{statement}
 use Rattle.row.proofs.kind_in.Tie as tie
 
@@ -10,7 +11,7 @@ abbrev Inv-loop : tie.InvT-loop
 Inv-loop p k₀ k = Looking p k
 
 abbrev μ-loop : tie.MeasureT-loop
-μ-loop p k₀ k = 6 - k
+μ-loop p k₀ k = endKind + 1 - k
 
 loop-holds : tie.Need-loop-holds Inv-loop μ-loop
 loop-holds c = search (look-start)

@@ -3,7 +3,8 @@ use mathlib.Core.Path.{refl, ap}
 use native.Mathlib.Omega.{arith}
 use lib.ListN.{length}
 use borrow.Author.Needs.{needs}
-use Rattle.row.proofs.Turns.{tabbed-none, tabbed-some, field-kept, field-put}
+use Rattle.row.proofs.Values.{tabbed-none, tabbed-some}
+use Rattle.row.proofs.Writing.{field-kept, field-put}
 use Rattle.row.proofs.put_field.Statement.{statement}
 use Rattle.row.proofs.put_field.Tie as tie
 

@@ -1,6 +1,6 @@
 -- `put_line` meets its contract. Writing the fields left gives what writing the line gives.
 use borrow.Author.Needs.{needs}
-use Rattle.row.proofs.Turns.{first-room, second-room, third-room, line-put}
+use Rattle.row.proofs.Writing.{first-room, second-room, third-room, line-put}
 use Rattle.row.proofs.put_line.Statement.{statement}
 use Rattle.row.proofs.put_line.Tie as tie
 

@@ -1,7 +1,7 @@
 -- `put_row` meets its contract.
 use native.Mathlib.Omega.{arith}
 use borrow.Author.Needs.{needs}
-use Rattle.row.proofs.Turns.{row-none, line-room, end-room, row-kept, row-put}
+use Rattle.row.proofs.Writing.{row-none, line-room, end-room, row-kept, row-put}
 use Rattle.row.proofs.put_row.Statement.{statement}
 use Rattle.row.proofs.put_row.Tie as tie
 

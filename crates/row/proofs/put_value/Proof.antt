@@ -2,7 +2,7 @@
 use borrow.Author.Needs.{needs}
 use Rattle.text.specs.Fields.{etherWord}
 use Rattle.row.specs.Kinds.{kindWords, modeWords}
-use Rattle.row.proofs.Turns.{text-number, text-kind, text-mode, text-ether, text-codel}
+use Rattle.row.proofs.Values.{text-number, text-kind, text-mode, text-ether, text-codel}
 use Rattle.row.proofs.put_value.Statement.{statement}
 use Rattle.row.proofs.put_value.Tie as tie
 

@@ -1,7 +1,7 @@
 -- `read_form` meets its contract.
 use borrow.Author.Needs.{needs}
 use Rattle.row.specs.Kinds.{kindWords, modeWords}
-use Rattle.row.proofs.Turns.{read-number, read-kind, read-mode, read-target}
+use Rattle.row.proofs.Values.{read-number, read-kind, read-mode, read-target}
 use Rattle.row.proofs.read_form.Statement.{statement}
 use Rattle.row.proofs.read_form.Tie as tie
 

@@ -1,7 +1,7 @@
 -- `read_row` meets its contract. Each field ends within the line, so that the next may start there.
 use borrow.Author.Needs.{needs}
-use Rattle.text.proofs.Turns.{first-ends}
-use Rattle.row.proofs.Turns.{row-unknown, row-first, row-second, row-third, row-long, row-whole, field-ends}
+use Rattle.text.proofs.Seeking.{first-ends}
+use Rattle.row.proofs.Reading.{row-unknown, row-first, row-second, row-third, row-long, row-whole, field-ends}
 use Rattle.row.proofs.read_row.Statement.{statement}
 use Rattle.row.proofs.read_row.Tie as tie
 

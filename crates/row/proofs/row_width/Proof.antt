@@ -2,7 +2,7 @@
 use borrow.Author.Needs.{needs}
 use native.Mathlib.Omega.{arith}
 use Rattle.row.proofs.Tables.{word-width}
-use Rattle.row.proofs.Turns.{width-whole}
+use Rattle.row.proofs.Writing.{width-whole}
 use Rattle.row.proofs.row_width.Statement.{statement}
 use Rattle.row.proofs.row_width.Tie as tie
 

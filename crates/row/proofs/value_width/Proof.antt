@@ -3,7 +3,7 @@ use borrow.Author.Needs.{needs}
 use Rattle.text.proofs.Numbers.{length-digits}
 use Rattle.text.specs.Fields.{etherWord}
 use Rattle.row.specs.Kinds.{kindWords, modeWords}
-use Rattle.row.proofs.Turns.{text-number, text-kind, text-mode, text-ether, text-codel}
+use Rattle.row.proofs.Values.{text-number, text-kind, text-mode, text-ether, text-codel}
 use Rattle.row.proofs.value_width.Statement.{statement}
 use Rattle.row.proofs.value_width.Tie as tie
 

@@ -5,8 +5,8 @@ use Rattle.soundness.proofs.Sentences.{sentences}
 use Rattle.soundness.proofs.executes_when_safe.Statement.{statement}
 use Rattle.soundness.proofs.executes_when_safe.Tie as tie
 
-both-requires : tie.Need-both-requires
-both-requires c κs = search (needs, known-codel)
+may-run-requires : tie.Need-may-run-requires
+may-run-requires c κs = search (needs, known-codel)
 
 returns : tie.Need-returns
 returns c = search sentences
@@ -33,7 +33,7 @@ pub executes-when-safe-spec : {M : Type 1} → statement M
 executes-when-safe-spec =
     tie.close
     (tie.spec
-    both-requires
+    may-run-requires
     returns
     enum-told
     enum-known-p

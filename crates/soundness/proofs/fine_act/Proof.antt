@@ -1,7 +1,7 @@
 -- `fine_act` meets its contract.
 use borrow.Author.Needs.{needs}
 use Rattle.soundness.proofs.Parts.{chain}
-use Rattle.soundness.proofs.Sentences.{fine-held, own-known}
+use Rattle.soundness.proofs.Sentences.{own-known}
 use Rattle.soundness.proofs.fine_act.Statement.{statement}
 use Rattle.soundness.proofs.fine_act.Tie as tie
 
@@ -17,14 +17,11 @@ sets-while-managing-requires c κs = search needs
 returns-2 : tie.Need-returns-2
 returns-2 c = search chain
 
-is-held-requires : tie.Need-is-held-requires
-is-held-requires c κs = search needs
-
 fine-place-requires : tie.Need-fine-place-requires
 fine-place-requires c κs = (search needs, search own-known, search needs)
 
 returns-3 : tie.Need-returns-3
-returns-3 c = search (fine-held, chain)
+returns-3 c = search chain
 
 pub fine-act-spec : {M : Type 1} → statement M
 fine-act-spec =
@@ -34,6 +31,5 @@ fine-act-spec =
     returns
     sets-while-managing-requires
     returns-2
-    is-held-requires
     fine-place-requires
     returns-3)

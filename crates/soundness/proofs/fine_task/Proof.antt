@@ -8,31 +8,31 @@ period-of-requires : tie.Need-period-of-requires
 period-of-requires c κs = search needs
 
 returns : tie.Need-returns
-returns c = search (chain, numbers) depth 7
+returns c = search (chain, numbers) depth 12
 
 holder-ok-requires : tie.Need-holder-ok-requires
 holder-ok-requires c κs = search needs
 
 returns-2 : tie.Need-returns-2
-returns-2 c = search (chain, numbers) depth 7
+returns-2 c = search (chain, numbers) depth 12
 
 waiting-ok-requires : tie.Need-waiting-ok-requires
 waiting-ok-requires c κs = search needs
 
 returns-3 : tie.Need-returns-3
-returns-3 c = search (chain, numbers) depth 7
+returns-3 c = search (chain, numbers) depth 12
 
 counts-ok-requires : tie.Need-counts-ok-requires
 counts-ok-requires c κs = search needs
 
 returns-4 : tie.Need-returns-4
-returns-4 c = search (chain, numbers) depth 7
+returns-4 c = search (chain, numbers) depth 12
 
 returns-5 : tie.Need-returns-5
-returns-5 c = search (chain, numbers) depth 7
+returns-5 c = search (chain, numbers) depth 12
 
 returns-6 : tie.Need-returns-6
-returns-6 c = search (chain, numbers) depth 7
+returns-6 c = search (chain, numbers) depth 12
 
 pub fine-task-spec : {M : Type 1} → statement M
 fine-task-spec =

@@ -4,6 +4,9 @@ use Rattle.soundness.proofs.Sentences.{sentences}
 use Rattle.soundness.proofs.listed_at_ether.Statement.{statement}
 use Rattle.soundness.proofs.listed_at_ether.Tie as tie
 
+is-held-requires : tie.Need-is-held-requires
+is-held-requires c κs = search needs
+
 is-ether-requires : tie.Need-is-ether-requires
 is-ether-requires c κs = search needs
 
@@ -21,4 +24,4 @@ returns c = search sentences
 
 pub listed-at-ether-spec : {M : Type 1} → statement M
 listed-at-ether-spec =
-    tie.close (tie.spec is-ether-requires both-requires either-requires implied-requires returns)
+    tie.close (tie.spec is-held-requires is-ether-requires both-requires either-requires implied-requires returns)

@@ -4,8 +4,8 @@ use Rattle.soundness.proofs.Parts.{chain, spared, asked}
 use Rattle.soundness.proofs.rests_unless_running.Statement.{statement}
 use Rattle.soundness.proofs.rests_unless_running.Tie as tie
 
-both-requires : tie.Need-both-requires
-both-requires c κs = search needs
+may-run-requires : tie.Need-may-run-requires
+may-run-requires c κs = search needs
 
 returns : tie.Need-returns
 returns c = search (spared)
@@ -21,4 +21,4 @@ returns-3 c = search (asked, chain)
 
 pub rests-unless-running-spec : {M : Type 1} → statement M
 rests-unless-running-spec =
-    tie.close (tie.spec both-requires returns may-rest-requires returns-2 returns-3)
+    tie.close (tie.spec may-run-requires returns may-rest-requires returns-2 returns-3)

@@ -2,7 +2,7 @@
 use borrow.Author.Needs.{needs}
 use Rattle.model.proofs.Tests.{true-T}
 use Rattle.model.proofs.Asked.{yes-by}
-use Rattle.table.proofs.TableTurns.{checked-fine}
+use Rattle.table.proofs.Writing.{checked-fine}
 use Rattle.stepping.proofs.Single.{table-refused, state-unsound, step-is}
 use Rattle.stepping.proofs.step.Statement.{statement}
 use Rattle.stepping.proofs.step.Tie as tie

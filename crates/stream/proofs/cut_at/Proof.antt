@@ -1,6 +1,6 @@
 -- `cut_at` meets its contract.
 use borrow.Author.Needs.{needs}
-use Rattle.log.proofs.Turns.{part-long}
+use Rattle.text.proofs.Seeking.{part-long}
 use Rattle.stream.proofs.Cuts.{cut-short, cut-long}
 use Rattle.stream.proofs.cut_at.Statement.{statement}
 use Rattle.stream.proofs.cut_at.Tie as tie

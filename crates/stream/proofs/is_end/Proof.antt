@@ -1,6 +1,6 @@
 -- `is_end` meets its contract.
 use borrow.Author.Needs.{needs}
-use Rattle.log.proofs.Turns.{part-long}
+use Rattle.text.proofs.Seeking.{part-long}
 use Rattle.stream.proofs.Cuts.{end-short}
 use Rattle.stream.proofs.is_end.Statement.{statement}
 use Rattle.stream.proofs.is_end.Tie as tie

@@ -4,7 +4,7 @@ use mathlib.Core.Path.{_≡_}
 use lib.ListN.{length}
 use borrow.Author.Needs.{needs}
 use Rattle.text.specs.Parts.{splitOn, partsFrom}
-use Rattle.text.proofs.Turns.{part-starts}
+use Rattle.text.proofs.Seeking.{part-starts}
 use Rattle.stream.specs.Cut.{endIn}
 use Rattle.stream.proofs.Cuts.{end-start, end-none, end-last, end-here, end-more, end-less}
 use Rattle.stream.proofs.table_end.Statement.{statement}

@@ -1,6 +1,6 @@
 -- `judge_block` meets its contract.
 use borrow.Author.Needs.{needs}
-use Rattle.log.proofs.Turns.{part-long}
+use Rattle.text.proofs.Seeking.{part-long}
 use Rattle.streaming.proofs.Turning.{chunk-inside, chunk-roomy, turned}
 use Rattle.streaming.proofs.judge_block.Statement.{statement}
 use Rattle.streaming.proofs.judge_block.Tie as tie

@@ -1,6 +1,6 @@
 -- `open_table` meets its contract.
 use borrow.Author.Needs.{needs}
-use Rattle.log.proofs.Turns.{part-long}
+use Rattle.text.proofs.Seeking.{part-long}
 use Rattle.streaming.proofs.Opening.{table-within, opened}
 use Rattle.streaming.proofs.open_table.Statement.{statement}
 use Rattle.streaming.proofs.open_table.Tie as tie

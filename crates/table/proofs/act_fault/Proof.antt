@@ -1,6 +1,6 @@
 -- `act_fault` meets its contract.
 use borrow.Author.Needs.{needs}
-use Rattle.table.proofs.Turns.{act-falls, act-full, act-stray, act-fine}
+use Rattle.table.proofs.Refusals.{act-falls, act-full, act-stray, act-fine}
 use Rattle.table.proofs.act_fault.Statement.{statement}
 use Rattle.table.proofs.act_fault.Tie as tie
 

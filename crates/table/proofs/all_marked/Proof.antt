@@ -5,7 +5,7 @@ use mathlib.Core.Bool.{true}
 use borrow.Author.Needs.{needs}
 use Rattle.model.specs.Tests.{each}
 use Rattle.table.specs.Marks.{marked}
-use Rattle.table.proofs.Turns.{all-more, all-not, all-end}
+use Rattle.table.proofs.Marking.{all-more, all-not, all-end}
 use Rattle.table.proofs.all_marked.Statement.{statement}
 use Rattle.table.proofs.all_marked.Tie as tie
 

@@ -1,6 +1,6 @@
 -- `behind_end` meets its contract.
 use borrow.Author.Needs.{needs}
-use Rattle.table.proofs.TableTurns.{behind-none, behind-short, behind-bad, behind-is}
+use Rattle.table.proofs.Reading.{behind-none, behind-short, behind-bad, behind-is}
 use Rattle.table.proofs.behind_end.Statement.{statement}
 use Rattle.table.proofs.behind_end.Tie as tie
 

@@ -1,6 +1,6 @@
 -- `check_row` meets its contract.
 use borrow.Author.Needs.{needs}
-use Rattle.table.proofs.Turns.{check-place, check-fine, check-refused}
+use Rattle.table.proofs.Refusals.{check-place, check-fine, check-refused}
 use Rattle.table.proofs.check_row.Statement.{statement}
 use Rattle.table.proofs.check_row.Tie as tie
 

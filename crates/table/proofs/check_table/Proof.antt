@@ -2,8 +2,10 @@
 use Prim.Native.Nat.{_+_, _-_}
 use lib.ListN.{length}
 use borrow.Author.Needs.{needs}
+use Rattle.row.specs.Kinds.{storedKinds}
 use Rattle.table.specs.Tables.{made}
-use Rattle.table.proofs.TableTurns.{next-fits, left, less-skip, less-next, Checking, check-start, check-end, line-fits, check-skip, check-full, check-stops, check-storable, check-more}
+use Rattle.table.proofs.RowsLeft.{next-fits, left, less-skip, less-next}
+use Rattle.table.proofs.Checking.{given-stored, Checking, check-start, check-end, line-fits, check-skip, check-full, check-stops, check-storable, check-more}
 use Rattle.table.proofs.check_table.Statement.{statement}
 use Rattle.table.proofs.check_table.Tie as tie
 
@@ -11,7 +13,7 @@ abbrev Inv-loop : tie.InvT-loop
 Inv-loop given have counts₀ rows₀ marks₀ k₀ i₀ line₀ counts rows marks k i line = Checking (made have given) k i line counts rows marks
 
 abbrev μ-loop : tie.MeasureT-loop
-μ-loop given have counts₀ rows₀ marks₀ k₀ i₀ line₀ counts rows marks k i line = length (left (made have given) k i) + (5 - k)
+μ-loop given have counts₀ rows₀ marks₀ k₀ i₀ line₀ counts rows marks k i line = length (left (made have given) k i) + (storedKinds - k)
 
 loop-holds : tie.Need-loop-holds Inv-loop μ-loop
 loop-holds c = search (check-start)
@@ -62,7 +64,7 @@ slice-aggregate-check-row-2 : tie.Need-slice-aggregate-check-row-2 Inv-loop μ-l
 slice-aggregate-check-row-2 c = search needs
 
 check-row-requires : tie.Need-check-row-requires Inv-loop μ-loop
-check-row-requires c κs = search needs
+check-row-requires c κs = search (given-stored)
 
 enum-told : tie.Need-enum-told Inv-loop μ-loop
 enum-told c = search needs

@@ -1,6 +1,6 @@
 -- `close` meets its contract.
 use borrow.Author.Needs.{needs}
-use Rattle.table.proofs.Turns.{close-refused, close-fine}
+use Rattle.table.proofs.Answers.{close-refused, close-fine}
 use Rattle.table.proofs.close.Statement.{statement}
 use Rattle.table.proofs.close.Tie as tie
 

@@ -2,7 +2,7 @@
 use native.Mathlib.Omega.{arith}
 use borrow.Author.Needs.{needs}
 use Rattle.row.specs.Kinds.{mostOf}
-use Rattle.table.proofs.Turns.{codel-falls, codel-full, codel-limit, codel-stray, codel-second, codel-fine}
+use Rattle.table.proofs.Refusals.{codel-falls, codel-full, codel-limit, codel-stray, codel-second, codel-fine}
 use Rattle.table.proofs.codel_fault.Statement.{statement}
 use Rattle.table.proofs.codel_fault.Tie as tie
 

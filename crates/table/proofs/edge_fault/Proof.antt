@@ -1,6 +1,6 @@
 -- `edge_fault` meets its contract.
 use borrow.Author.Needs.{needs}
-use Rattle.table.proofs.Turns.{edge-falls, edge-full, edge-stray, edge-lost, edge-bad, edge-fine}
+use Rattle.table.proofs.Refusals.{edge-falls, edge-full, edge-stray, edge-lost, edge-bad, edge-fine}
 use Rattle.table.proofs.edge_fault.Statement.{statement}
 use Rattle.table.proofs.edge_fault.Tie as tie
 

@@ -1,6 +1,6 @@
 -- `follows` meets its contract.
 use borrow.Author.Needs.{needs}
-use Rattle.table.proofs.Turns.{follows-last}
+use Rattle.table.proofs.Order.{follows-last}
 use Rattle.table.proofs.follows.Statement.{statement}
 use Rattle.table.proofs.follows.Tie as tie
 

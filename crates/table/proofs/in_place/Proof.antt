@@ -6,15 +6,16 @@ use lib.ListN.{getD}
 use lib.Dec.{ltb, eqb}
 use borrow.Author.Needs.{needs}
 use Rattle.model.specs.Tests.{_implies_, each}
-use Rattle.table.proofs.Turns.{place-skip, place-more, place-not, place-end}
+use Rattle.row.specs.Kinds.{storedKinds}
+use Rattle.table.proofs.Order.{place-skip, place-more, place-not, place-end}
 use Rattle.table.proofs.in_place.Statement.{statement}
 use Rattle.table.proofs.in_place.Tie as tie
 
 abbrev Inv-loop : tie.InvT-loop
-Inv-loop k counts j₀ j = (j ≤ 5) × (each j (λ i. ltb k i implies eqb (getD counts i 0) 0) ≡ true)
+Inv-loop k counts j₀ j = (j ≤ storedKinds) × (each j (λ i. ltb k i implies eqb (getD counts i 0) 0) ≡ true)
 
 abbrev μ-loop : tie.MeasureT-loop
-μ-loop k counts j₀ j = 5 - j
+μ-loop k counts j₀ j = storedKinds - j
 
 loop-holds : tie.Need-loop-holds Inv-loop μ-loop
 unfolding each

@@ -1,6 +1,6 @@
 -- `kind_fault` meets its contract.
 use borrow.Author.Needs.{needs}
-use Rattle.table.proofs.Turns.{kind-task, kind-act, kind-codel, kind-edge, kind-mutex}
+use Rattle.table.proofs.Refusals.{kind-task, kind-act, kind-codel, kind-edge, kind-mutex}
 use Rattle.table.proofs.kind_fault.Statement.{statement}
 use Rattle.table.proofs.kind_fault.Tie as tie
 

@@ -2,7 +2,7 @@
 use native.Mathlib.Omega.{arith}
 use borrow.Author.Needs.{needs}
 use Rattle.row.specs.Kinds.{mostOf}
-use Rattle.table.proofs.Turns.{last-none, last-task, last-act, last-codel, last-fine}
+use Rattle.table.proofs.Marking.{last-none, last-task, last-act, last-codel, last-fine}
 use Rattle.table.proofs.last_fault.Statement.{statement}
 use Rattle.table.proofs.last_fault.Tie as tie
 

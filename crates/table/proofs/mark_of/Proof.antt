@@ -1,7 +1,7 @@
 -- `mark_of` meets its contract.
 use native.Mathlib.Omega.{arith}
 use borrow.Author.Needs.{needs}
-use Rattle.table.proofs.Turns.{mark-task, mark-kind, mark-main, mark-edge, mark-none}
+use Rattle.table.proofs.Marking.{mark-task, mark-kind, mark-main, mark-edge, mark-none}
 use Rattle.table.proofs.mark_of.Statement.{statement}
 use Rattle.table.proofs.mark_of.Tie as tie
 

@@ -1,6 +1,6 @@
 -- `may_lead` meets its contract.
 use borrow.Author.Needs.{needs}
-use Rattle.table.proofs.Turns.{leads-ether, leads-across, leads-on}
+use Rattle.table.proofs.Refusals.{leads-ether, leads-across, leads-on}
 use Rattle.table.proofs.may_lead.Statement.{statement}
 use Rattle.table.proofs.may_lead.Tie as tie
 

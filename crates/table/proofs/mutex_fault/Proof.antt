@@ -1,6 +1,6 @@
 -- `mutex_fault` meets its contract.
 use borrow.Author.Needs.{needs}
-use Rattle.table.proofs.Turns.{mutex-turned, mutex-falls, mutex-full, mutex-stray, mutex-lost, mutex-inside, mutex-fine}
+use Rattle.table.proofs.Refusals.{mutex-turned, mutex-falls, mutex-full, mutex-stray, mutex-lost, mutex-inside, mutex-fine}
 use Rattle.table.proofs.mutex_fault.Statement.{statement}
 use Rattle.table.proofs.mutex_fault.Tie as tie
 

@@ -4,8 +4,10 @@ use mathlib.Core.Path.{ap, _∙_}
 use lib.ListN.{length}
 use lib.Seq.{length-sets}
 use borrow.Author.Needs.{needs}
+use Rattle.row.specs.Kinds.{storedKinds}
 use Rattle.table.specs.Tables.{made}
-use Rattle.table.proofs.TableTurns.{next-fits, left, less-skip, less-next, few, Putting, put-start, put-skip, put-more, put-end}
+use Rattle.table.proofs.RowsLeft.{next-fits, left, less-skip, less-next}
+use Rattle.table.proofs.Writing.{few, Putting, put-start, put-skip, put-more, put-end}
 use Rattle.table.proofs.put_table.Statement.{statement}
 use Rattle.table.proofs.put_table.Tie as tie
 
@@ -13,7 +15,7 @@ abbrev Inv-loop : tie.InvT-loop
 Inv-loop buf₀ given have at₀ k₀ i₀ buf at k i = Putting (made have given) k i at buf buf₀
 
 abbrev μ-loop : tie.MeasureT-loop
-μ-loop buf₀ given have at₀ k₀ i₀ buf at k i = length (left (made have given) k i) + (5 - k)
+μ-loop buf₀ given have at₀ k₀ i₀ buf at k i = length (left (made have given) k i) + (storedKinds - k)
 
 loop-holds : tie.Need-loop-holds Inv-loop μ-loop
 loop-holds c = search (put-start)

@@ -2,8 +2,8 @@
 use Prim.Native.Nat.{_-_}
 use lib.ListN.{length}
 use borrow.Author.Needs.{needs}
-use Rattle.text.proofs.Turns.{part-starts}
-use Rattle.table.proofs.TableTurns.{read-less, read-long, Reading, read-start, read-absent, read-short, read-bad, read-count, read-behind, read-whole, said-small, read-refused, read-storable, read-more}
+use Rattle.text.proofs.Seeking.{part-starts}
+use Rattle.table.proofs.Reading.{read-less, read-long, Reading, read-start, read-absent, read-short, read-bad, read-count, read-behind, read-whole, said-small, said-stored, read-refused, read-storable, read-more}
 use Rattle.table.proofs.read_table.Statement.{statement}
 use Rattle.table.proofs.read_table.Tie as tie
 
@@ -92,7 +92,7 @@ slice-aggregate-check-row-2 : tie.Need-slice-aggregate-check-row-2 Inv-loop μ-l
 slice-aggregate-check-row-2 c = search needs
 
 check-row-requires : tie.Need-check-row-requires Inv-loop μ-loop
-check-row-requires c κs = search (said-small)
+check-row-requires c κs = search (said-small, said-stored)
 
 enum-told-2 : tie.Need-enum-told-2 Inv-loop μ-loop
 enum-told-2 c = search needs

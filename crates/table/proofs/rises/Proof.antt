@@ -1,6 +1,6 @@
 -- `rises` meets its contract.
 use borrow.Author.Needs.{needs}
-use Rattle.table.proofs.Turns.{rises-first, rises-not, rises-second}
+use Rattle.table.proofs.Order.{rises-first, rises-not, rises-second}
 use Rattle.table.proofs.rises.Statement.{statement}
 use Rattle.table.proofs.rises.Tie as tie
 

@@ -1,6 +1,6 @@
 -- `row_at` meets its contract.
 use borrow.Author.Needs.{needs}
-use Rattle.table.proofs.Turns.{field-most}
+use Rattle.table.proofs.Shown.{field-most}
 use Rattle.table.proofs.row_at.Statement.{statement}
 use Rattle.table.proofs.row_at.Tie as tie
 

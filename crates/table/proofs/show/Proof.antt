@@ -1,6 +1,6 @@
 -- `show` meets its contract.
 use borrow.Author.Needs.{needs}
-use Rattle.table.proofs.Turns.{show-none, show-kind, show-mode, show-ether, show-value}
+use Rattle.table.proofs.Shown.{show-none, show-kind, show-mode, show-ether, show-value}
 use Rattle.table.proofs.show.Statement.{statement}
 use Rattle.table.proofs.show.Tie as tie
 

@@ -1,6 +1,6 @@
 -- `task_fault` meets its contract.
 use borrow.Author.Needs.{needs}
-use Rattle.table.proofs.Turns.{task-full, task-period, task-keep, task-fine}
+use Rattle.table.proofs.Refusals.{task-full, task-period, task-keep, task-fine}
 use Rattle.table.proofs.task_fault.Statement.{statement}
 use Rattle.table.proofs.task_fault.Tie as tie
 

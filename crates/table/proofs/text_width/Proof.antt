@@ -3,10 +3,12 @@ use Prim.Native.Nat.{_+_, _-_}
 use mathlib.Core.Path.{_≡_}
 use lib.ListN.{length}
 use borrow.Author.Needs.{needs}
+use Rattle.row.specs.Kinds.{storedKinds}
 use Rattle.table.specs.Tables.{made, totalOf}
 use Rattle.table.specs.Texts.{textOf, tableText}
 use Rattle.table.proofs.Widths.{text-short}
-use Rattle.table.proofs.TableTurns.{next-fits, left, less-skip, less-next, few, width-start, width-skip, width-next, width-fits, width-end, end-fits}
+use Rattle.table.proofs.RowsLeft.{next-fits, left, less-skip, less-next}
+use Rattle.table.proofs.Writing.{few, width-start, width-skip, width-next, width-fits, width-end, end-fits}
 use Rattle.table.proofs.text_width.Statement.{statement}
 use Rattle.table.proofs.text_width.Tie as tie
 
@@ -14,7 +16,7 @@ abbrev Inv-loop : tie.InvT-loop
 Inv-loop given have width₀ k₀ i₀ width k i = width + length (textOf (totalOf have) (left (made have given) k i)) ≡ length (tableText (made have given))
 
 abbrev μ-loop : tie.MeasureT-loop
-μ-loop given have width₀ k₀ i₀ width k i = length (left (made have given) k i) + (5 - k)
+μ-loop given have width₀ k₀ i₀ width k i = length (left (made have given) k i) + (storedKinds - k)
 
 loop-holds : tie.Need-loop-holds Inv-loop μ-loop
 loop-holds c = search (width-start)

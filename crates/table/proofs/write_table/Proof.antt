@@ -1,7 +1,7 @@
 -- `write_table` meets its contract.
 use native.Mathlib.Omega.{arith}
 use borrow.Author.Needs.{needs}
-use Rattle.table.proofs.TableTurns.{checked-fine, write-refused, write-short, write-whole}
+use Rattle.table.proofs.Writing.{checked-fine, write-refused, write-short, write-whole}
 use Rattle.table.proofs.write_table.Statement.{statement}
 use Rattle.table.proofs.write_table.Tie as tie
 

@@ -1,14 +1,15 @@
 -- `largest` is safe and ends.
 use Prim.Native.Nat.{_≤_, _-_}
 use borrow.Author.Needs.{needs}
+use Rattle.table.specs.Tables.{mostRows}
 use Rattle.table_cases.proofs.largest.Statement.{statement}
 use Rattle.table_cases.proofs.largest.Tie as tie
 
 abbrev Inv-loop : tie.InvT-loop
-Inv-loop counts rows₀ n₀ rows n = n ≤ 1360
+Inv-loop counts rows₀ n₀ rows n = n ≤ mostRows
 
 abbrev μ-loop : tie.MeasureT-loop
-μ-loop counts rows₀ n₀ rows n = 1360 - n
+μ-loop counts rows₀ n₀ rows n = mostRows - n
 
 loop-holds : tie.Need-loop-holds Inv-loop μ-loop
 loop-holds c = search needs

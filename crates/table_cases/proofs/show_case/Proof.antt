@@ -1,5 +1,5 @@
 -- `show_case` is safe: the note stands within the first line.
-use Rattle.text.proofs.Turns.{word-starts, word-ends}
+use Rattle.text.proofs.Fields.{word-starts, word-ends}
 use borrow.Author.Needs.{needs}
 use Rattle.table_cases.proofs.show_case.Statement.{statement}
 use Rattle.table_cases.proofs.show_case.Tie as tie

@@ -2,12 +2,13 @@
 use Prim.Native.Nat.{_-_, _≤_}
 use mathlib.Core.Path.{_≡_}
 use borrow.Author.Needs.{needs}
+use Rattle.model.specs.Limits.{mostTasks}
 use Rattle.tally.proofs.Counting.{counted, counted-none, counted-one, counted-same, counted-all, few-tasks}
 use Rattle.tally.proofs.count_managing.Statement.{statement}
 use Rattle.tally.proofs.count_managing.Tie as tie
 
 abbrev Inv-loop : tie.InvT-loop
-Inv-loop rows index s nt n₀ t₀ n t = (t ≤ nt) × (nt ≤ 16) × (n ≤ t) × (n ≡ counted s t)
+Inv-loop rows index s nt n₀ t₀ n t = (t ≤ nt) × (nt ≤ mostTasks) × (n ≤ t) × (n ≡ counted s t)
 
 abbrev μ-loop : tie.MeasureT-loop
 μ-loop rows index s nt n₀ t₀ n t = nt - t

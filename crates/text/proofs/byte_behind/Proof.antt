@@ -4,7 +4,7 @@ use mathlib.Core.Path.{_≡_}
 use lib.ListN.{length}
 use borrow.Author.Needs.{needs}
 use Rattle.text.specs.Parts.{firstAt}
-use Rattle.text.proofs.Turns.{find-here, find-more, find-end}
+use Rattle.text.proofs.Seeking.{find-here, find-more, find-end}
 use Rattle.text.proofs.byte_behind.Statement.{statement}
 use Rattle.text.proofs.byte_behind.Tie as tie
 

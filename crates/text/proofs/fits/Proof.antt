@@ -1,5 +1,5 @@
 -- `fits` meets its contract.
-use Rattle.text.proofs.Turns.{fits-past, fits-left}
+use Rattle.text.proofs.Laying.{fits-past, fits-left}
 use Rattle.text.proofs.fits.Statement.{statement}
 use Rattle.text.proofs.fits.Tie as tie
 

@@ -1,6 +1,6 @@
 -- `glyph` meets its contract.
 use borrow.Author.Needs.{needs}
-use Rattle.text.proofs.Turns.{glyph-decimal, glyph-letter}
+use Rattle.text.proofs.Spelling.{glyph-decimal, glyph-letter}
 use Rattle.text.proofs.glyph.Statement.{statement}
 use Rattle.text.proofs.glyph.Tie as tie
 

@@ -4,7 +4,7 @@ use mathlib.Core.Path.{_≡_, _∙_}
 use lib.ListN.{length}
 use borrow.Author.Needs.{needs}
 use Rattle.text.specs.Parts.{firstAt}
-use Rattle.text.proofs.Turns.{find-first, find-second, find-third, find-fourth, find-none}
+use Rattle.text.proofs.Seeking.{find-first, find-second, find-third, find-fourth, find-none}
 use Rattle.text.proofs.next_byte.Statement.{statement}
 use Rattle.text.proofs.next_byte.Tie as tie
 
@@ -14,8 +14,8 @@ Inv-loop s at b most i₀ i = firstAt s i b ≡ firstAt s at b
 abbrev μ-loop : tie.MeasureT-loop
 μ-loop s at b most i₀ i = length s - i
 
-with-three-requires : tie.Need-with-three-requires Inv-loop μ-loop
-with-three-requires c κs = search needs
+above-requires : tie.Need-above-requires Inv-loop μ-loop
+above-requires c κs = search needs
 
 loop-holds : tie.Need-loop-holds Inv-loop μ-loop
 loop-holds c = search needs
@@ -74,7 +74,7 @@ next-byte-spec =
     (tie.spec
     Inv-loop
     μ-loop
-    with-three-requires
+    above-requires
     loop-holds
     shared-slice-read-if1
     returns

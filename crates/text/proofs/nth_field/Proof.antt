@@ -4,7 +4,7 @@ use mathlib.Core.Path.{_≡_}
 use lib.ListN.{length}
 use borrow.Author.Needs.{needs}
 use Rattle.text.specs.Parts.{partsFrom, fieldFrom, fieldAt}
-use Rattle.text.proofs.Turns.{field-start, field-here, field-more, field-gone}
+use Rattle.text.proofs.Fields.{field-start, field-here, field-more, field-gone}
 use Rattle.text.proofs.nth_field.Statement.{statement}
 use Rattle.text.proofs.nth_field.Tie as tie
 

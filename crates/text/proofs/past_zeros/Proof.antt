@@ -4,7 +4,7 @@ use mathlib.Core.Path.{_≡_}
 use lib.ListN.{length, drop}
 use borrow.Author.Needs.{needs}
 use Rattle.text.specs.Digits.{scan}
-use Rattle.text.proofs.Turns.{zero-more}
+use Rattle.text.proofs.Spelling.{zero-more}
 use Rattle.text.proofs.past_zeros.Statement.{statement}
 use Rattle.text.proofs.past_zeros.Tie as tie
 

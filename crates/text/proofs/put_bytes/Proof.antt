@@ -4,7 +4,7 @@ use mathlib.Core.Path.{_≡_}
 use lib.ListN.{length, drop, length-set}
 use lib.Seq.{sets}
 use borrow.Author.Needs.{needs}
-use Rattle.text.proofs.Turns.{copy-place, put-none, put-room, put-whole, copy-start, copy-more, copy-end}
+use Rattle.text.proofs.Laying.{copy-place, put-none, put-room, put-whole, copy-start, copy-more, copy-end}
 use Rattle.text.proofs.put_bytes.Statement.{statement}
 use Rattle.text.proofs.put_bytes.Tie as tie
 

@@ -5,7 +5,7 @@ use lib.ListN.{length, length-set}
 use lib.Seq.{sets}
 use borrow.Author.Needs.{needs}
 use Rattle.text.specs.Digits.{pad}
-use Rattle.text.proofs.Turns.{digit-small, put-turn, put-end}
+use Rattle.text.proofs.Spelling.{digit-small, put-turn, put-end}
 use Rattle.text.proofs.put_digits.Statement.{statement}
 use Rattle.text.proofs.put_digits.Tie as tie
 

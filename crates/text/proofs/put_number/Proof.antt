@@ -1,7 +1,8 @@
 -- `put_number` meets its contract.
 use borrow.Author.Needs.{needs}
 use Rattle.text.specs.Number.{digits}
-use Rattle.text.proofs.Turns.{put-place, number-length, number-laid, put-none, put-room, put-whole}
+use Rattle.text.proofs.Laying.{put-place, put-none, put-room, put-whole}
+use Rattle.text.proofs.Decimals.{number-length, number-laid}
 use Rattle.text.proofs.put_number.Statement.{statement}
 use Rattle.text.proofs.put_number.Tie as tie
 

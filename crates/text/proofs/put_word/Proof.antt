@@ -1,6 +1,6 @@
 -- `put_word` meets its contract.
 use borrow.Author.Needs.{needs}
-use Rattle.text.proofs.Turns.{word-none, word-starts, word-ends, word-whole}
+use Rattle.text.proofs.Fields.{word-none, word-starts, word-ends, word-whole}
 use Rattle.text.proofs.put_word.Statement.{statement}
 use Rattle.text.proofs.put_word.Tie as tie
 

@@ -5,7 +5,7 @@ use native.Mathlib.Nat.{one-le-pow}
 use lib.ListN.{length, drop}
 use borrow.Author.Needs.{needs}
 use Rattle.text.specs.Digits.{scan}
-use Rattle.text.proofs.Turns.{scan-end, scan-bad, scan-more, scan-room, scan-fits, scan-shifts}
+use Rattle.text.proofs.Spelling.{scan-end, scan-bad, scan-more, scan-room, scan-fits, scan-shifts}
 use Rattle.text.proofs.read_digits.Statement.{statement}
 use Rattle.text.proofs.read_digits.Tie as tie
 

@@ -1,7 +1,8 @@
 -- `read_number` meets its contract.
 use native.Mathlib.Omega.{arith}
 use borrow.Author.Needs.{needs}
-use Rattle.text.proofs.Turns.{number-empty, number-over, number-wide, number-one, number-zero, number-more, power-fits}
+use Rattle.text.proofs.Spelling.{power-fits}
+use Rattle.text.proofs.Decimals.{number-empty, number-over, number-wide, number-one, number-zero, number-more}
 use Rattle.text.proofs.read_number.Statement.{statement}
 use Rattle.text.proofs.read_number.Tie as tie
 

@@ -4,7 +4,7 @@ use mathlib.Core.Path.{_≡_}
 use lib.ListN.{length, drop}
 use borrow.Author.Needs.{needs}
 use Rattle.text.specs.Words.{sameList}
-use Rattle.text.proofs.Turns.{same-short, same-other, same-more, same-end}
+use Rattle.text.proofs.Alike.{same-short, same-other, same-more, same-end}
 use Rattle.text.proofs.same.Statement.{statement}
 use Rattle.text.proofs.same.Tie as tie
 

@@ -4,7 +4,7 @@ use mathlib.Core.Path.{_≡_, refl}
 use native.Mathlib.Omega.{arith}
 use borrow.Author.Needs.{needs}
 use Rattle.text.specs.Number.{widthFrom, widthOf}
-use Rattle.text.proofs.Turns.{width-here, width-more, width-last, power-next, power-small}
+use Rattle.text.proofs.Decimals.{width-here, width-more, width-last, power-next, power-small}
 use Rattle.text.proofs.width.Statement.{statement}
 use Rattle.text.proofs.width.Tie as tie
 

@@ -5,7 +5,8 @@ use lib.ListN.{length}
 use borrow.Author.Needs.{needs}
 use Rattle.text.specs.Parts.{partsFrom}
 use Rattle.text.specs.Words.{indexFrom, wordIn}
-use Rattle.text.proofs.Turns.{part-starts, part-ends, word-start, word-here, word-more, word-gone}
+use Rattle.text.proofs.Seeking.{part-starts, part-ends}
+use Rattle.text.proofs.Fields.{word-start, word-here, word-more, word-gone}
 use Rattle.text.proofs.word_in.Statement.{statement}
 use Rattle.text.proofs.word_in.Tie as tie
 

@@ -1,6 +1,6 @@
 -- `word_width` meets its contract.
 use borrow.Author.Needs.{needs}
-use Rattle.text.proofs.Turns.{width-none, width-whole, word-starts}
+use Rattle.text.proofs.Fields.{width-none, width-whole, word-starts}
 use Rattle.text.proofs.word_width.Statement.{statement}
 use Rattle.text.proofs.word_width.Tie as tie
 

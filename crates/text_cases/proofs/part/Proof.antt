@@ -1,6 +1,6 @@
 -- `part` is safe: a field that a line has stands within it.
 use borrow.Author.Needs.{needs}
-use Rattle.text.proofs.Turns.{word-starts, word-ends}
+use Rattle.text.proofs.Fields.{word-starts, word-ends}
 use Rattle.text_cases.proofs.part.Statement.{statement}
 use Rattle.text_cases.proofs.part.Tie as tie
 

@@ -2,7 +2,7 @@
 use Prim.Native.Nat.{_≤_, _-_}
 use lib.ListN.{length}
 use borrow.Author.Needs.{needs}
-use Rattle.text.proofs.Turns.{part-ends}
+use Rattle.text.proofs.Seeking.{part-ends}
 use Rattle.text_cases.proofs.run.Statement.{statement}
 use Rattle.text_cases.proofs.run.Tie as tie
 

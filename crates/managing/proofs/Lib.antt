@@ -1,0 +1,4 @@
+pub mod Listed
+pub mod Within
+pub mod Flags
+pub mod Answers

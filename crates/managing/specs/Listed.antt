@@ -1,0 +1,29 @@
+-- N and R by what stands beside the state: of each activity whether it is in one of them.
+use Prim.Native.Nat.{ℕ}
+use mathlib.Core.Bool.{Bool, true}
+use mathlib.Core.List.{List, map}
+use lib.ListN.{getD}
+use lib.Dec.{eqb}
+use Rattle.model.specs.Tests.{_or_, _implies_, one, each}
+use Rattle.model.specs.Tables.{Table}
+use Rattle.model.specs.declared.Act.{Act}
+use Rattle.model.specs.declared.State.{State}
+use Rattle.model.specs.declared.TaskStep.{TaskStep}
+use Rattle.model.specs.declared.TaskStep.the-variants.{St, Fm}
+
+-- whether an activity is in N or R
+abbrev pub listedOf : Act → ℕ
+listedOf y = one ((y .run) or (y .halt))
+
+-- of each activity of a state
+abbrev pub listedIn : State → List ℕ
+listedIn s = map listedOf (s .acts)
+
+-- no activity of the task t is in N or R
+unfoldable pub noneBy : Table → List ℕ → ℕ → Bool
+noneBy K listed t = each (K .nacts) (λ a. eqb (K .task a) t implies eqb (getD listed a 0) 0)
+
+-- what `fm` of the task t asks beside the record
+abbrev pub emptyForBy : Table → List ℕ → ℕ → TaskStep → Bool
+emptyForBy K listed t St = true
+emptyForBy K listed t Fm = noneBy K listed t
