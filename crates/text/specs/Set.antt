@@ -56,7 +56,7 @@ emptySet = record { low = 0; high = 0 }
 unfoldable pub bit : ℕ → ℕ → Bool
 bit n i = eqb (n / 2 ^ i % 2) 1
 
--- is i a member?
+-- whether i is a member
 unfoldable pub member : Set → ℕ → Bool
 member n i = pick (ltb i halfRoom) (bit (n .low) i) (pick (ltb i setRoom) (bit (n .high) (i - halfRoom)) false)
 
