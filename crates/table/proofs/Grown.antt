@@ -14,7 +14,7 @@ use Rattle.table.specs.Tables.{rowOf, addRow}
 use Rattle.table.specs.Checks.{rowsFrom, kindsFrom, rowsOf}
 use Rattle.table.specs.declared.Table.{Table}
 use Rattle.table.proofs.Accepted.{Follows}
-use Rattle.table.proofs.Stored.{others, count-same, count-other}
+use Rattle.table.proofs.Stored.{placeOf, others, count-same, count-other}
 use Rattle.table.proofs.RowsOf.{from-count}
 
 -- u has the rows of t, and perhaps more of each kind
@@ -32,6 +32,15 @@ grown-added {t} {r} f =
           (λ e. rw (count-other f k (eqb-false k (r .kind) e)) (omega arith));
       rows = λ k i h l. others f k i (λ p q. omega (arith, ap (λ (j : ℕ). getD (t .counts) j 0) p));
     }
+
+-- a row that was not there before is the one added
+pub added-place : {t : Table} {r : Row} → Follows t r → (k i : ℕ) → getD (t .counts) k 0 ≤ i → i < getD (addRow t r .counts) k 0 → (k ≡ r .kind) × (i ≡ placeOf t r)
+added-place {t} {r} f k i m l =
+    let q : k ≡ r .kind =
+    cases (eqb k (r .kind)) (λ e. eqb-true _ _ e) (λ e. absurd (omega (arith, count-other f k (eqb-false k (r .kind) e)))) in
+    let c = ap (λ (j : ℕ). getD (t .counts) j 0) q in
+    let d = ap (λ (j : ℕ). getD (addRow t r .counts) j 0) q in
+    (q, omega (arith, count-same f))
 
 -- the rows of one kind among others
 abbrev ofKind : ℕ → List Row → List Row

@@ -1,13 +1,11 @@
 -- The numbers of a well-formed table: each row of it is within its limits.
 use Prim.Native.Nat.{ℕ, _≤_, _<_}
-use mathlib.Core.Path.{_≡_, sym, ap, subst}
+use mathlib.Core.Path.{_≡_, sym, subst}
 use mathlib.Core.List.{List}
 use mathlib.Core.Bool.{true}
 use native.Mathlib.Omega.{arith}
 use lib.ListN.{getD, getD-replicate}
-use lib.Dec.{eqb}
-use borrow.Author.Tests.{eqb-true, eqb-false}
-use Rattle.text.proofs.Picks.{cases, order}
+use Rattle.text.proofs.Picks.{order}
 use Rattle.row.specs.Kinds.{storedKinds, mostFields, aNumber, mostOf, formOf}
 use Rattle.row.specs.declared.Row.{Row}
 use Rattle.model.specs.Limits.{mostTicks}
@@ -17,8 +15,8 @@ use Rattle.table.specs.Checks.{rowsOf, checkTable}
 use Rattle.table.specs.declared.Table.{Table}
 use Rattle.table.proofs.Fields.{three, number-low, Limited}
 use Rattle.table.proofs.Accepted.{Follows, accepted}
-use Rattle.table.proofs.Stored.{empty-sized, placeOf, stored, count-same, count-other}
-use Rattle.table.proofs.Grown.{grown-added, same-counts, same-grown}
+use Rattle.table.proofs.Stored.{empty-sized, stored}
+use Rattle.table.proofs.Grown.{grown-added, added-place, same-counts, same-grown}
 use Rattle.table.proofs.Built.{Built, done, more, built-sized, built-all, fine-accepts, table-whole}
 use Rattle.table.proofs.Accepting.{accepted-exactly}
 
@@ -34,12 +32,8 @@ limited-added {t} {r} f a k i h l =
     order i (getD (t .counts) k 0)
     (λ m. subst Limited (sym (grown-added f .rows k i h m)) (a k i h m))
     (λ m.
-    let q : k ≡ r .kind =
-    cases (eqb k (r .kind)) (λ e. eqb-true _ _ e) (λ e. absurd (omega (arith, count-other f k (eqb-false k (r .kind) e)))) in
-    let c = ap (λ (j : ℕ). getD (t .counts) j 0) q in
-    let d = ap (λ (j : ℕ). getD (addRow t r .counts) j 0) q in
-    let p : i ≡ placeOf t r = omega (arith, count-same f) in
-    let e : rowOf (addRow t r .rows) k i ≡ r = rw (q, p) (stored f) in
+    let p = added-place f k i m l in
+    let e : rowOf (addRow t r .rows) k i ≡ r = rw (p .0, p .1) (stored f) in
     subst Limited (sym e) (accepted f .limited))
 
 limited-built : {t u : Table} {rs : List Row} → Built t rs u → AllLimited t → AllLimited u

@@ -6,8 +6,8 @@ use mathlib.Core.Bool.{Bool, true, not}
 use native.Mathlib.Omega.{arith}
 use lib.ListN.{getD, getD-replicate}
 use lib.Dec.{ltb, leb, eqb}
-use borrow.Author.Tests.{lt-ltb, ltb-true, eq-eqb, eqb-true, eqb-false}
-use Rattle.text.proofs.Picks.{cases, order}
+use borrow.Author.Tests.{lt-ltb, ltb-true, eq-eqb}
+use Rattle.text.proofs.Picks.{order}
 use Rattle.row.specs.Kinds.{storedKinds}
 use Rattle.row.specs.declared.Row.{Row}
 use Rattle.model.specs.Tests.{_and_, each, after, accepted}
@@ -23,9 +23,9 @@ use Rattle.table.proofs.Tests.{needed, each-all, each-same, some-same, 
 use Rattle.table.proofs.Fields.{by-kind}
 use Rattle.table.proofs.Faults.{act-passes, codel-passes, edge-passes, mutex-passes}
 use Rattle.table.proofs.Accepted.{Follows}
-use Rattle.table.proofs.Stored.{placeOf, stored, count-same, count-other}
+use Rattle.table.proofs.Stored.{placeOf, stored}
 use Rattle.table.proofs.RowsOf.{someRow}
-use Rattle.table.proofs.Grown.{Grown, grown-added, same-counts, same-grown}
+use Rattle.table.proofs.Grown.{Grown, grown-added, added-place, same-counts, same-grown}
 use Rattle.table.proofs.Built.{Built, done, more, built-all, table-whole, fine-accepts}
 
 -- each row of a table is accepted behind those before it
@@ -160,14 +160,10 @@ fine-added {t} {r} f o k i h l =
     order i (getD (t .counts) k 0)
     (λ m. fine-grown t (addRow t r) g o k i h m)
     (λ m.
-    let q : k ≡ r .kind =
-    cases (eqb k (r .kind)) (λ e. eqb-true _ _ e) (λ e. absurd (omega (arith, count-other f k (eqb-false k (r .kind) e)))) in
-    let c = ap (λ (j : ℕ). getD (t .counts) j 0) q in
-    let d = ap (λ (j : ℕ). getD (addRow t r .counts) j 0) q in
-    let p : i ≡ placeOf t r = omega (arith, count-same f) in
+    let p = added-place f k i m l in
     let own = needed (inPlace (t .counts) (r .kind)) 1 (f .fine) .1 in
     let before = grown-behind g (r .kind) (placeOf t r) (f .worded .kind) (omega arith) in
-    rw (q, p, stored f) (stays t (addRow t r) (fine-owned t o) (placeOf t r) r (f .worded .kind) before own))
+    rw (p .0, p .1, stored f) (stays t (addRow t r) (fine-owned t o) (placeOf t r) r (f .worded .kind) before own))
 
 fine-built : {t u : Table} {rs : List Row} → Built t rs u → RowsFine t → RowsFine u
 fine-built done o = o
