@@ -138,7 +138,7 @@ static unsigned do_st(engine_t *e, uint64_t task) {
     task_t *t = &e->task[task];
     if (t->timer < e->table->task[task].period) return 14;
     t->timer = 0;
-    if (t->signal && t->managing) t->missed++;
+    if (t->managing) t->missed++;
     t->signal = true;
     return 0;
 }

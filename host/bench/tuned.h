@@ -153,7 +153,7 @@ static inline unsigned do_st(engine_t *e, uint64_t task) {
     task_t *t = &e->task[task];
     e->timer_end[task] = e->date + e->table->task[task].period;
     if (!t->managing) e->ready |= 1u << task;
-    else t->missed += t->signal;
+    else t->missed++;
     t->signal = true;
     return 0;
 }

@@ -1,7 +1,7 @@
 //! Judges that keep to recorder/judge.h, called on case after case through the driver recorder/cases.c and held against the model.
 
 use crate::model::{judge, put_report, refused_with};
-use crate::told::told_cases;
+use crate::told::{cases_of_k, told_cases, K_REPORT};
 use crate::walk::{any_case, ceiling_case, sized_table, Case, Runner, Size};
 use crate::{run, run_script, Source};
 use std::env::var;
@@ -81,6 +81,14 @@ impl Driver {
     pub fn compare_in_any_room(&self, s: &mut Source, cases: &[Case], hits: &mut Hits) {
         let roomed: Vec<(&Case, usize)> = cases.iter().map(|case| (case, some_room(s, case))).collect();
         self.compare(&roomed, hits);
+    }
+
+    /// Table K, which has the page's report with its keep and with longer ones.
+    pub fn compare_k(&self) {
+        for k in cases_of_k() {
+            assert_eq!(judge(&k.table, &k.log), K_REPORT.as_bytes());
+            self.compare(&[(&k, K_REPORT.len()), (&k, K_REPORT.len() - 1), (&k, 1_000)], &mut Hits::default());
+        }
     }
 
     /// The cases that the page tells.

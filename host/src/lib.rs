@@ -11,6 +11,9 @@ pub mod text;
 pub mod told;
 pub mod walk;
 
+/// The examples by name: NAME.txt is an input of the program, NAME.report its report.
+pub const EXAMPLES: [&str; 4] = ["k", "m", "late", "sprayer"];
+
 /// The repository's folder.
 pub fn repository() -> PathBuf {
     PathBuf::from(env!("CARGO_MANIFEST_DIR")).join("..")

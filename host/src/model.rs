@@ -230,7 +230,7 @@ pub fn unsound(table: &Table, state: &State) -> Option<&'static str> {
     let every_task = |test: &dyn Fn(usize, &TaskState) -> bool| state.tasks.iter().enumerate().all(|(i, t)| test(i, t));
     let every_act = |test: &dyn Fn(u64, &ActivityState) -> bool| state.acts.iter().enumerate().all(|(i, a)| test(i as u64, a));
     let resting = |a: &ActivityState| at_rest(table, a.at) && !a.executing;
-    let sentences: [(&str, &dyn Fn() -> bool); 19] = [
+    let sentences: [(&str, &dyn Fn() -> bool); 20] = [
         ("date at most 1,000,000,000,000", &|| state.date <= CEILING),
         ("timer at most the period", &|| every_task(&|i, t| t.timer <= table.tasks[i].0)),
         ("N and R within the task", &|| {
@@ -273,12 +273,10 @@ pub fn unsound(table: &Table, state: &State) -> Option<&'static str> {
         }),
         ("every other clock is 0", &|| every_act(&|_, a| a.executing || a.clock == 0)),
         ("date minus timer is not below 0", &|| every_task(&|_, t| t.timer <= state.date)),
-        ("cycle number + signal + missed is at most date minus timer", &|| {
-            every_task(&|_, t| {
-                let sum = u128::from(t.cycle) + u128::from(t.signal) + u128::from(t.missed);
-                sum <= u128::from(state.date - t.timer)
-            })
+        ("cycle number plus signal is at most date minus timer", &|| {
+            every_task(&|_, t| u128::from(t.cycle) + u128::from(t.signal) <= u128::from(state.date - t.timer))
         }),
+        ("so is missed", &|| every_task(&|_, t| t.missed <= state.date - t.timer)),
         ("longest is at most 1,000,000,000", &|| every_task(&|_, t| t.longest <= MOST_TICKS)),
         ("open date is at most the date", &|| every_task(&|_, t| t.open <= state.date)),
         ("open date, missed and longest are 0 while waiting", &|| {
@@ -437,12 +435,13 @@ fn pass_time(state: &mut State, d: u64) {
     }
 }
 
+/// "Timer 0, signal set"; "missed grows at each `st` accepted while the cycle is open, set or not".
 fn start_timer(task: &mut TaskState) {
     task.timer = 0;
-    if task.signal && task.managing {
+    task.signal = true;
+    if task.managing {
         task.missed += 1;
     }
-    task.signal = true;
 }
 
 fn launch(table: &Table, state: &mut State, task: u64, activity: u64) {

@@ -5,6 +5,12 @@ use crate::walk::Case;
 
 /// Table K of the page.
 pub const K: &str = "task 10 5, act 0, codel 0 start 20, edge 0 ether run, end 4";
+/// Table K and its log as document 01 prints them, and its report as document 02 has it.
+pub const K_TABLE: &str = "task\t10\t5\nact\t0\ncodel\t0\tstart\t20\nedge\t0\tether\trun\nend\t4\n";
+pub const K_LOG: &str = "wait\t10\nst\t0\nsm\t0\t0000000000000001\t0000000000000000\nlm\t0\t0\nea\t0\t0\nwait\t10\nst\t0\nwait\t10\nfa\t0\tether\n\
+                         fm\t0\nsm\t0\t0000000000000000\t0000000000000001\nlm\t0\t0\nia\t0\nfm\t0\nst\t0\n\
+                         sm\t0\t0000000000000000\t0000000000000001\nlm\t0\t0\nia\t0\nfm\t0\n";
+pub const K_REPORT: &str = "cycles\t1\nkept\t0\t1\t10\t30\t1\t20\nsum\t19\t30\t3\t1\t2\t0\t11\t0\t0\n";
 /// Table M of the page.
 pub const M: &str = "task 10 5, task 10 5, act 0, act 1, codel 0 start 4, codel 1 start 4, edge 0 ether run, edge 1 ether run, mutex 0 1, \
                      end 9";
@@ -141,6 +147,14 @@ fn told_tables() -> impl Iterator<Item = (Case, (u64, u64))> {
         (format!("{}task 1 1", "task 1 1, ".repeat(16)), (3, 17)),
     ];
     few.chain(too_many).map(|(list, refused)| (Case { table: lines_of(&list), log: b"st\t0\n".to_vec() }, refused))
+}
+
+/// K and its log, with the page's keep and with longer ones. The report of each is K's: the first cycle takes 20 ticks and one signal comes
+/// meanwhile, so it is kept by that signal where not by its time.
+pub fn cases_of_k() -> Vec<Case> {
+    let kept_at = |keep: u64| K_TABLE.replace("task\t10\t5", &format!("task\t10\t{}", keep));
+    let case = |keep: u64| Case { table: kept_at(keep).into_bytes(), log: K_LOG.into() };
+    [5, 20, 21, 25, 1_000_000_000].map(case).to_vec()
 }
 
 /// All cases, each with the number and line that its report ends with.

@@ -20,6 +20,13 @@ fn drivers(test: &str) -> Vec<Driver> {
 }
 
 #[test]
+fn the_c_judges_report_on_k_as_the_page_has_it() {
+    for driver in drivers("k") {
+        driver.compare_k();
+    }
+}
+
+#[test]
 fn the_c_judges_refuse_as_the_page_tells() {
     for driver in drivers("told") {
         driver.compare_told(&mut Hits::default());

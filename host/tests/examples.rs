@@ -1,8 +1,9 @@
 //! The examples: what they show, by the model, and that the sprayer's log is what its program writes.
 
-use host::model::{cut_input, judge, Judging, Step};
-use host::repository;
+use host::model::{cut_input, judge, Cycle, Judging, Step};
 use host::table::Table;
+use host::told::{K_LOG, K_REPORT, K_TABLE};
+use host::{repository, EXAMPLES};
 use std::fs::read;
 use std::process::Command;
 
@@ -21,7 +22,7 @@ fn judging(file: &str) -> (Table, Judging) {
 
 #[test]
 fn the_reports_are_the_models() {
-    for name in ["k", "m", "sprayer"] {
+    for name in EXAMPLES {
         let input = example(&format!("{}.txt", name));
         let (table, log) = cut_input(&input);
         let report = String::from_utf8(judge(table, log)).expect("a report is plain text");
@@ -30,8 +31,9 @@ fn the_reports_are_the_models() {
 }
 
 #[test]
-fn the_report_of_k_is_the_pages() {
-    assert_eq!(example("k.report"), b"cycles\t1\nkept\t0\t1\t10\t30\t0\t20\nsum\t19\t30\t3\t1\t2\t0\t11\t0\t0\n");
+fn the_example_k_is_the_pages() {
+    assert_eq!(example("k.txt"), (K_TABLE.to_string() + K_LOG).into_bytes());
+    assert_eq!(example("k.report"), K_REPORT.as_bytes());
 }
 
 #[test]
@@ -42,19 +44,35 @@ fn the_log_of_m_ends_in_a_conflict() {
     assert_eq!(kept, [(1, 7, 3)]);
 }
 
+/// A cycle by number, ticks and missed.
+fn told(cycle: &Cycle) -> (u64, u64, u64) {
+    (cycle.number, cycle.close - cycle.open, cycle.missed)
+}
+
+#[test]
+fn the_late_cycles_are_kept() {
+    let (table, judging) = judging("late.txt");
+    assert_eq!((table.tasks[0], judging.refusal), ((100_000, 150_000), 0));
+    // of the kept cycles one took its keep; of the others each ended behind a signal
+    assert_eq!(judging.kept.iter().map(told).collect::<Vec<_>>(), [(2, 120_000, 1), (4, 160_000, 1), (5, 70_000, 1)]);
+    assert_eq!(judging.dropped.iter().map(told).collect::<Vec<_>>(), [(1, 80_000, 0), (3, 70_000, 0), (6, 60_000, 0)]);
+}
+
 #[test]
 fn the_sprayers_log_shows_what_its_scenario_says() {
     let (table, judging) = judging("sprayer.txt");
     assert_eq!((table.tasks.len(), table.acts.len(), table.codels.len(), table.mutexes.len()), (4, 5, 15, 3));
     assert_eq!(judging.refusal, 0);
     assert!((300..1_000).contains(&judging.accepted.len()), "{} lines", judging.accepted.len());
-    // one slow cycle of the drive; each arm misses one signal in one cycle, standing and not executing for long
+    // one slow cycle of the drive; in each arm's cycle 6 two signals come while it stands, not executing for long; its next one begins late,
+    // ends behind a signal, and takes less than its keep
     let of_task = |task: u64| judging.kept.iter().filter(move |cycle| cycle.task == task);
     assert_eq!(of_task(0).map(|cycle| (cycle.longest, cycle.missed)).collect::<Vec<_>>(), [(13_500, 0)]);
-    for arm in [1, 2] {
-        assert_eq!(of_task(arm).map(|cycle| (cycle.open, cycle.missed)).collect::<Vec<_>>(), [(300_000, 1)]);
-        assert!(of_task(arm).all(|cycle| cycle.longest < 10_000 && cycle.close - cycle.open > 128_000));
+    for (arm, ticks) in [(1, [136_169, 17_273]), (2, [144_912, 18_639])] {
+        assert_eq!(of_task(arm).map(told).collect::<Vec<_>>(), [(6, ticks[0], 2), (7, ticks[1], 1)]);
+        assert!(of_task(arm).all(|cycle| cycle.longest < 11_000) && ticks[1] < table.tasks[arm as usize].1);
     }
+    assert_eq!(of_task(3).map(told).collect::<Vec<_>>(), [(3, 128_000, 1), (4, 59_858, 0)]);
     assert!(of_task(3).any(|cycle| cycle.longest == 128_000));
     // at the end of the row all but the counting of the wheels' turns is interrupted
     let interrupted: Vec<Step> = judging.accepted.iter().filter(|step| matches!(step, Step::Ia(_))).copied().collect();

@@ -4,19 +4,12 @@
 use host::driver::{build_with_product, case_count, long_case, pausing_case, room_for_any, Driver, Hits, UNFIT};
 use host::model::{cut_input, judge};
 use host::table::LONGEST;
-use host::told::told_cases;
+use host::told::{cases_of_k, told_cases, K_LOG, K_REPORT, K_TABLE as K};
 use host::walk::{any_case, ceiling_case, refused_everywhere, Case, SIZES};
-use host::{output_of, product, repository, run, run_program, start, write_to, Source};
+use host::{output_of, product, repository, run, run_program, start, write_to, Source, EXAMPLES};
 use std::fs::{read, read_to_string, remove_file};
 use std::path::{Path, PathBuf};
 use std::process::{ChildStdin, Command, Stdio};
-
-/// Table K, its log and its report, as document 01 prints them.
-const K: &str = "task\t10\t5\nact\t0\ncodel\t0\tstart\t20\nedge\t0\tether\trun\nend\t4\n";
-const K_LOG: &str = "wait\t10\nst\t0\nsm\t0\t0000000000000001\t0000000000000000\nlm\t0\t0\nea\t0\t0\nwait\t10\nst\t0\nwait\t10\nfa\t0\tether\n\
-                     fm\t0\nsm\t0\t0000000000000000\t0000000000000001\nlm\t0\t0\nia\t0\nfm\t0\nst\t0\n\
-                     sm\t0\t0000000000000000\t0000000000000001\nlm\t0\t0\nia\t0\nfm\t0\n";
-const K_REPORT: &str = "cycles\t1\nkept\t0\t1\t10\t30\t0\t20\nsum\t19\t30\t3\t1\t2\t0\t11\t0\t0\n";
 
 /// The most memory that the program may take, in kibibytes.
 const MOST_MEMORY: u64 = 8 * 1024;
@@ -68,12 +61,11 @@ fn assert_every_answer(hits: &Hits, least: usize) {
 }
 
 #[test]
-fn the_report_of_k_is_the_pages() {
-    assert_eq!(judge(K.as_bytes(), K_LOG.as_bytes()), K_REPORT.as_bytes());
-    assert_eq!(read_to_string(repository().join("examples/k.txt")).expect("an example"), K.to_string() + K_LOG);
-    let k = case(K, K_LOG);
-    function("k").compare(&[(&k, K_REPORT.len()), (&k, 1_000)], &mut Hits::default());
-    assert_eq!(run_program("judge", (K.to_string() + K_LOG).as_bytes()), K_REPORT.as_bytes());
+fn the_report_of_k_is_the_pages_with_its_keep_and_with_longer_ones() {
+    function("k").compare_k();
+    for k in cases_of_k() {
+        assert_eq!(run_program("judge", &[k.table, k.log].concat()), K_REPORT.as_bytes());
+    }
 }
 
 #[test]
@@ -327,7 +319,7 @@ fn the_programs_memory_stays_small() {
 #[test]
 fn the_program_reports_on_the_examples() {
     let examples = repository().join("examples");
-    for name in ["k", "m", "sprayer"] {
+    for name in EXAMPLES {
         let file = |ending: &str| read(examples.join(format!("{}.{}", name, ending))).expect("an example");
         assert!(run_program("judge", &file("txt")) == file("report"), "examples/{}.txt", name);
     }

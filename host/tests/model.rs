@@ -5,10 +5,10 @@ use host::model::{
     State, Step, CEILING,
 };
 use host::table::{Table, ETHER, LONGEST};
-use host::told::{line_of, lines_of as text, told_cases, K, M, P, STANDING, STOPPED, TWO};
+use host::told::{cases_of_k, line_of, lines_of as text, told_cases, K, K_REPORT, K_TABLE, M, P, STANDING, STOPPED, TWO};
 use host::walk::{
     accepted_step, any_case, any_table, candidates, ceiling_case, partners, refused_everywhere, sized_table, text_of, wanted, wild_step,
-    Runner, SIZES,
+    Case, Runner, SIZES,
 };
 use host::Source;
 
@@ -35,11 +35,11 @@ fn sum_row(report: &[u8]) -> String {
 }
 
 #[test]
-fn the_report_of_k_is_the_pages() {
-    let log = "wait 10, st 0, sm 0 1 0, lm 0 0, ea 0 0, wait 10, st 0, wait 10, fa 0 ether, fm 0, sm 0 0 1, lm 0 0, ia 0, fm 0, st 0, \
-               sm 0 0 1, lm 0 0, ia 0, fm 0";
-    let report = b"cycles\t1\nkept\t0\t1\t10\t30\t0\t20\nsum\t19\t30\t3\t1\t2\t0\t11\t0\t0\n";
-    assert_eq!(judge(&text(K), &text(log)), report);
+fn the_report_of_k_is_the_pages_with_its_keep_and_with_longer_ones() {
+    assert_eq!(text(K), K_TABLE.as_bytes());
+    for k in cases_of_k() {
+        assert_eq!(judge(&k.table, &k.log), K_REPORT.as_bytes());
+    }
 }
 
 #[test]
@@ -131,11 +131,11 @@ fn a_paused_activity_enters_its_codel_again() {
 fn signals_are_missed_only_while_managing() {
     let k = table(K);
     let open = after(&k, "wait 10, st 0, sm 0 1 0, lm 0 0, ea 0 0, wait 10, st 0");
-    assert_eq!((open.tasks[0].signal, open.tasks[0].missed), (true, 0));
+    assert_eq!((open.tasks[0].signal, open.tasks[0].missed), (true, 1));
     let mut again = open.clone();
     again.tasks[0].timer = 10;
     again.date = 30;
-    assert_eq!(step(&k, &again, b"st\t0\n").expect("the timer is due").tasks[0].missed, 1);
+    assert_eq!(step(&k, &again, b"st\t0\n").expect("the timer is due").tasks[0].missed, 2);
     let mut waiting = after(&k, "wait 10, st 0");
     waiting.tasks[0].timer = 10;
     waiting.date = 20;
@@ -144,11 +144,22 @@ fn signals_are_missed_only_while_managing() {
 }
 
 #[test]
-fn a_missed_signal_keeps_a_cycle_that_is_short() {
+fn a_signal_keeps_a_cycle_that_is_short() {
     let t = K.replace("task 10 5", "task 10 1000");
-    let steps = "wait 10, st 0, sm 0 1 0, lm 0 0, ea 0 0, wait 10, st 0, wait 10, st 0, fa 0 ether, fm 0";
-    let report = judge(&text(&t), &text(steps));
-    assert_eq!(report, b"cycles\t1\nkept\t0\t1\t10\t30\t1\t20\nsum\t11\t30\t1\t1\t0\t0\t4\t0\t0\n");
+    let report = |steps: &str| judge(&text(&t), &text(&format!("wait 10, st 0, sm 0 1 0, lm 0 0, ea 0 0, {}, fa 0 ether, fm 0", steps)));
+    assert_eq!(report("wait 9"), b"cycles\t1\nsum\t8\t19\t1\t0\t1\t0\t4\t0\t0\n");
+    assert_eq!(report("wait 10, st 0"), b"cycles\t1\nkept\t0\t1\t10\t20\t1\t10\nsum\t9\t20\t1\t1\t0\t0\t4\t0\t0\n");
+    let two = b"cycles\t1\nkept\t0\t1\t10\t30\t2\t20\nsum\t11\t30\t1\t1\t0\t0\t4\t0\t0\n";
+    assert_eq!(report("wait 10, st 0, wait 10, st 0"), two);
+}
+
+#[test]
+fn missed_may_exceed_what_the_cycles_leave() {
+    let t = table(&K.replace("task 10 5", "task 1 5"));
+    let late = after(&t, "wait 1, st 0, sm 0 1 0, lm 0 0, ea 0 0, wait 1, st 0");
+    let task = &late.tasks[0];
+    assert_eq!((late.date, task.timer, task.cycle, task.signal, task.missed), (2, 0, 1, true, 1));
+    assert_eq!(answer(&t, &late, "wait 1"), 0);
 }
 
 #[test]
@@ -232,7 +243,7 @@ fn fa_and_ea_tell_their_edges_apart() {
 /// A change to a state, and the sentence that it breaks.
 type Break = (&'static str, fn(&mut State));
 
-fn breaks() -> [Break; 31] {
+fn breaks() -> [Break; 32] {
     [
         ("date at most 1,000,000,000,000", |s| s.date = CEILING + 1),
         ("timer at most the period", |s| s.tasks[0].timer = 11),
@@ -280,12 +291,13 @@ fn breaks() -> [Break; 31] {
             s.date = 5;
             s.tasks[0].timer = 6;
         }),
-        ("cycle number + signal + missed is at most date minus timer", |s| s.tasks[0].cycle = 21),
-        ("cycle number + signal + missed is at most date minus timer", |s| {
+        ("cycle number plus signal is at most date minus timer", |s| s.tasks[0].cycle = 21),
+        ("cycle number plus signal is at most date minus timer", |s| {
             s.tasks[0].cycle = 20;
             s.tasks[0].signal = true;
         }),
-        ("cycle number + signal + missed is at most date minus timer", |s| s.tasks[0].missed = u64::MAX),
+        ("so is missed", |s| s.tasks[0].missed = 21),
+        ("so is missed", |s| s.tasks[0].missed = u64::MAX),
         ("longest is at most 1,000,000,000", |s| s.tasks[0].longest = 1_000_000_001),
         ("open date is at most the date", |s| s.tasks[0].open = 21),
         ("open date, missed and longest are 0 while waiting", |s| s.tasks[0].open = 1),
@@ -340,6 +352,7 @@ fn the_states_next_to_the_broken_ones_are_sound() {
             s.tasks[0].managing = true;
             s.tasks[0].open = 20;
             s.tasks[0].longest = 1_000_000_000;
+            (s.tasks[0].cycle, s.tasks[0].signal, s.tasks[0].missed) = (19, true, 20);
         },
     ];
     for change in changes {
@@ -503,6 +516,43 @@ fn each_answer_is_given_often() {
         assert!(hits[number] >= 20, "{} is given {} times", number, hits[number]);
     }
     assert!(kept > 1_000 && dropped > 1_000 && missed > 100, "cycles of every verdict");
+}
+
+/// The signals of each cycle, told by the steps alone: those of the task between the `sm` that opens it and the `fm` that closes it.
+fn signals_of_closed_cycles(steps: &[Step]) -> Vec<(u64, u64, u64)> {
+    let mut open = [None; 16];
+    let mut number = [0; 16];
+    let mut closed = Vec::new();
+    for step in steps {
+        match *step {
+            Step::Sm(t, ..) => {
+                number[t as usize] += 1;
+                open[t as usize] = Some(0);
+            }
+            Step::St(t) => open[t as usize] = open[t as usize].map(|signals| signals + 1),
+            Step::Fm(t) => closed.push((t, number[t as usize], open[t as usize].take().expect("a cycle is open"))),
+            _ => {}
+        }
+    }
+    closed
+}
+
+#[test]
+fn missed_is_how_many_signals_came_while_the_cycle_was_open() {
+    let mut s = Source(28);
+    let mut by_signals = [0usize; 4];
+    let read = |case: Case| Table::read(&case.table).ok().map(|table| Judging::of(&table, &case.log));
+    for judging in (0..4_000).filter_map(|_| read(any_case(&mut s))) {
+        let mut cycles: Vec<(u64, u64, u64)> =
+            judging.kept.iter().chain(&judging.dropped).map(|cycle| (cycle.task, cycle.number, cycle.missed)).collect();
+        let mut told = signals_of_closed_cycles(&judging.accepted);
+        cycles.sort();
+        told.sort();
+        assert_eq!(cycles, told);
+        assert!(judging.dropped.iter().all(|cycle| cycle.missed == 0), "no cycle with a signal in it is dropped");
+        told.iter().for_each(|(_, _, signals)| by_signals[(*signals).min(3) as usize] += 1);
+    }
+    assert!(by_signals.iter().all(|n| *n > 50), "none, one, two and more: {:?}", by_signals);
 }
 
 #[test]

@@ -78,6 +78,7 @@ cycle-small : (K : Table) → Formed K → (s : State) → Sound K s → (t : �
 cycle-small K F s S t h =
     let x = task-at K s S t h in
     let counts = x .counts in
+    let missed = x .missed in
     let opened = x .opened in
     let date = S .date in
     record { task = omega (arith, F .fits .0); cycle = omega arith; opened = omega arith; closed = date; missed = omega arith; longest = x .longest }

@@ -7,18 +7,22 @@ use native.Mathlib.Omega.{arith}
 use lib.Dec.{T}
 use lib.ListN.{length}
 use Rattle.text.specs.Parts.{splitOn}
-use Rattle.model.specs.Tests.{accepted}
+use Rattle.text.specs.declared.Set.{Set}
 use Rattle.model.specs.Tables.{Table}
 use Rattle.model.specs.Rows.{wellformed}
 use Rattle.model.specs.States.{fresh}
-use Rattle.model.specs.Rules.{refusal, next}
+use Rattle.model.specs.Rules.{next}
 use Rattle.model.specs.Logs.{allAccepted, reached, most}
-use Rattle.model.specs.Cycles.{Verdict, none, kept, dropped, KeptRow, Report, verdict, isFm, isVerdict, withKept, keptIn, stepsOf, stopOn, report}
+use Rattle.model.specs.Cycles.{Verdict, none, kept, dropped, KeptRow, Report, verdict, isFm, isVerdict, signalsIn, staysOpen, cycleVerdict, withKept, keptIn, stepsOf, stopOn, report}
 use Rattle.model.specs.declared.State.{State}
+use Rattle.model.specs.declared.TaskStep.the-variants.{Fm}
 use Rattle.model.specs.declared.Step.{Step}
+use Rattle.model.specs.declared.Step.the-variants.{Sm, OfTask}
 use Rattle.model.specs.declared.Line.{Line}
-use Rattle.model.proofs.Tests.{true-T, and-i, and-both}
+use Rattle.model.proofs.Tests.{true-T}
+use Rattle.model.proofs.StepsKeep.{parts-accepted}
 use Rattle.model.proofs.Verdicts.{verdict-at-fm}
+use Rattle.model.proofs.Signals.{cycle-told}
 use Rattle.model.proofs.Demand.{DemandThree, demand-three}
 use Rattle.model.proofs.Reports.{Through, StoppedAt, steps-accepted, report-balance, report-bound, stop-exact}
 use Rattle.table.specs.Tables.{tableOf}
@@ -42,14 +46,6 @@ kept-parts K (y ∷ ys) s x zs = ap (withKept (verdict K s y)) (kept-parts K ys 
     shift none = refl
     shift (kept r) = refl
     shift dropped = refl
-
--- the first of accepted steps are accepted
-first-accepted : (K : Table) (ys zs : List Step) (s : State) → T (allAccepted K s (ys ++ zs)) → T (allAccepted K s ys)
-unfolding allAccepted
-first-accepted K [] zs s ok = tt
-first-accepted K (y ∷ ys) zs s ok =
-    let now = and-both (accepted (refusal K s y)) _ ok in
-    and-i (accepted (refusal K s y)) _ (now .0) (first-accepted K ys zs (next K s y) (now .1))
 
 -- the report's seventh number is the definition's over the accepted steps, and within the bound
 pub most-told : (K : Table) → T (wellformed K) → (log : List ℕ)
@@ -90,6 +86,10 @@ pub record Mission (table log : List ℕ) : Type 0 where
   pub rows : (ys : List Step) (x : Step) (zs : List Step) → stepsDone table log ≡ ys ++ x ∷ zs
       → judged table log .kept
       ≡ keptIn (tableSaid table) fresh ys ++ withKept (verdict (tableSaid table) (reached (tableSaid table) fresh ys) x) (keptIn (tableSaid table) (next (tableSaid table) (reached (tableSaid table) fresh ys) x) zs)
+  -- "missed grows at each `st` accepted while the cycle is open": each cycle of the log is judged by its own lines
+  pub cycles : (ys : List Step) (t : ℕ) (n r : Set) (xs zs : List Step) → stepsDone table log ≡ ys ++ ((Sm t n r ∷ xs) ++ OfTask t Fm ∷ zs) → T (staysOpen t xs)
+      → verdict (tableSaid table) (reached (tableSaid table) fresh (ys ++ Sm t n r ∷ xs)) (OfTask t Fm)
+      ≡ cycleVerdict (tableSaid table) (reached (tableSaid table) fresh ys) (reached (tableSaid table) fresh (ys ++ Sm t n r ∷ xs)) t (signalsIn t xs)
   -- demand 3, at the end of the log and at each place before it
   pub demand : (ys zs : List Step) → stepsDone table log ≡ ys ++ zs → DemandThree (tableSaid table) fresh ys
 
@@ -124,5 +124,6 @@ mission table log e =
       bound = most-told K wf log .1;
       verdicts = λ ys x zs h. verdict-at-fm K (reached K fresh ys) x;
       rows = λ ys x zs h. rw h (kept-parts K ys fresh x zs);
-      demand = λ ys zs h. demand-three K wf ys (first-accepted K ys zs fresh (subst (λ xs. T (allAccepted K fresh xs)) h (steps-accepted K fresh ls)));
+      cycles = λ ys t n r xs zs h. cycle-told K wf ys t n r xs (OfTask t Fm ∷ zs) (subst (λ l. T (allAccepted K fresh l)) h (steps-accepted K fresh ls));
+      demand = λ ys zs h. demand-three K wf ys (parts-accepted K ys zs fresh (subst (λ xs. T (allAccepted K fresh xs)) h (steps-accepted K fresh ls)) .0);
     }

@@ -14,6 +14,7 @@ pub mod Urgent
 pub mod Progress
 pub mod Demand
 pub mod Verdicts
+pub mod Signals
 pub mod Balance
 pub mod Reports
 pub mod Bench

@@ -12,7 +12,7 @@ use Rattle.model.specs.Tests.{_and_, _or_, one}
 use Rattle.model.specs.Limits.{mostTicks}
 use Rattle.model.specs.Tables.{Table, isEther, isCodel, hasEdge, safe}
 use Rattle.model.specs.States.{byManager, heldBy, stands, runs, clear, clearAt}
-use Rattle.model.specs.Rules.{entered, rested, held, oneMore, signalled, managed, listed, again, eaAllowed, begun, faAllowed, closed, timed, clocked}
+use Rattle.model.specs.Rules.{entered, rested, held, oneMore, misses, signalled, managed, listed, again, eaAllowed, begun, faAllowed, closed, timed, clocked}
 use Rattle.model.specs.Sound.{atOwn, setsWhileManaging, mayRest, atSafe, clockOk, holderOk}
 use Rattle.model.specs.declared.Task.{Task}
 use Rattle.model.specs.declared.Act.{Act}
@@ -32,41 +32,36 @@ pub signalled-fine : (K : Table) (date t : ℕ) (x : Task) → FineTask K date t
 signalled-fine K date t x f due p = record {
   timer = zero-le;
   holder = f .holder;
-  waits = imp-i (not (x .managing)) _ (λ n. rw (same (x .signal) (x .managing) n) (imp-e (not (x .managing)) _ (f .waits) n));
-  counts = counts (x .signal) (x .managing) (f .counts);
+  waits = imp-i (not (x .managing)) _ (λ n. rw (T-false (x .managing) (T-not (x .managing) n)) (imp-e (not (x .managing)) _ (f .waits) n));
+  counts = omega (arith, f .counts);
+  missed = missed (misses x) (f .missed);
   longest = f .longest;
   opened = f .opened;
 }
   where
-    same : (g m : Bool) → T (not m) → oneMore (g and m) (x .missed) ≡ x .missed
-    same g true n = absurd n
-    same true false n = refl
-    same false false n = refl
-
-    counts : (g m : Bool) → x .timer + (x .cycle + one g + x .missed) ≤ date → 0 + (x .cycle + one true + oneMore (g and m) (x .missed)) ≤ date
-    counts true true h = omega arith
-    counts true false h = omega arith
-    counts false m h = omega arith
+    missed : (b : Bool) → x .timer + x .missed ≤ date → 0 + oneMore b (x .missed) ≤ date
+    missed true h = omega arith
+    missed false h = omega arith
 
 -- `sm`: one signal becomes one cycle
 pub managed-fine : (K : Table) (date t : ℕ) (x : Task) → FineTask K date t x → T (x .signal) → FineTask K date t (managed date x)
 managed-fine K date t x f g =
     let s = T-true (x .signal) g in
-    record { timer = f .timer; holder = f .holder; waits = tt; counts = omega (arith, f .counts, ap one s); longest = f .longest; opened = le-refl _ }
+    record { timer = f .timer; holder = f .holder; waits = tt; counts = omega (arith, f .counts, ap one s); missed = f .missed; longest = f .longest; opened = le-refl _ }
 
 -- a managing task with another holder and a longest clock
 pub held-fine : (K : Table) (date t : ℕ) (x : Task) (h : Holder) (k : ℕ) → FineTask K date t x → T (x .managing) → T (holderOk K t h) → k ≤ mostTicks → FineTask K date t (held h k x)
 held-fine K date t x h k f m o b =
     let l = f .longest in
-    record { timer = f .timer; holder = o; waits = imp-i (not (x .managing)) _ (λ n. absurd (T-not (x .managing) n m)); counts = f .counts; longest = omega arith; opened = f .opened }
+    record { timer = f .timer; holder = o; waits = imp-i (not (x .managing)) _ (λ n. absurd (T-not (x .managing) n m)); counts = f .counts; missed = f .missed; longest = omega arith; opened = f .opened }
 
 -- `fm`: a waiting manager
 pub closed-fine : (K : Table) (date t : ℕ) (x : Task) → FineTask K date t x → T (byManager (x .holder)) → FineTask K date t (closed x)
-closed-fine K date t x f h = record { timer = f .timer; holder = f .holder; waits = and-i (byManager (x .holder)) _ h tt; counts = omega (arith, f .counts); longest = zero-le; opened = zero-le }
+closed-fine K date t x f h = record { timer = f .timer; holder = f .holder; waits = and-i (byManager (x .holder)) _ h tt; counts = f .counts; missed = omega (arith, f .missed); longest = zero-le; opened = zero-le }
 
 -- `wait`: date and timer grow alike
 pub timed-fine : (K : Table) (date t d : ℕ) (x : Task) → FineTask K date t x → x .timer + d ≤ K .period t → FineTask K (date + d) t (timed d x)
-timed-fine K date t d x f r = record { timer = r; holder = f .holder; waits = f .waits; counts = omega (arith, f .counts); longest = f .longest; opened = omega (arith, f .opened) }
+timed-fine K date t d x f r = record { timer = r; holder = f .holder; waits = f .waits; counts = omega (arith, f .counts); missed = omega (arith, f .missed); longest = f .longest; opened = omega (arith, f .opened) }
 
 -- a task that an activity holds is managing
 pub managing-of : (K : Table) (date t a : ℕ) (x : Task) → FineTask K date t x → T (heldBy (x .holder) a) → T (x .managing)

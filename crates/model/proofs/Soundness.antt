@@ -9,7 +9,7 @@ use Rattle.model.specs.Tests.{_and_, _implies_, one, each}
 use Rattle.model.specs.Limits.{mostTasks, mostActs, mostTicks, ceiling}
 use Rattle.model.specs.Tables.{Table, isEther}
 use Rattle.model.specs.States.{noTask, noAct, fresh, taskAt, actAt, byManager, heldBy}
-use Rattle.model.specs.Sound.{atOwn, setsWhileManaging, mayRest, restsUnlessRunning, listedAtEther, stillAtEther, executesWhenSafe, clockOk, fineAct, timerOk, holderOk, waitingOk, countsOk, longestOk, fineTask, apart, isFreshTask, isFreshAct, sound}
+use Rattle.model.specs.Sound.{atOwn, setsWhileManaging, mayRest, restsUnlessRunning, listedAtEther, stillAtEther, executesWhenSafe, clockOk, fineAct, timerOk, holderOk, waitingOk, cyclesAsked, countsOk, missedOk, longestOk, fineTask, apart, isFreshTask, isFreshAct, sound}
 use Rattle.model.specs.declared.Task.{Task}
 use Rattle.model.specs.declared.Act.{Act}
 use Rattle.model.specs.declared.State.{State}
@@ -132,7 +132,8 @@ pub record FineTask (K : Table) (date t : ℕ) (x : Task) : Type 0 where
   pub timer : x .timer ≤ K .period t
   pub holder : T (holderOk K t (x .holder))
   pub waits : T (waitingOk x)
-  pub counts : x .timer + (x .cycle + one (x .signal) + x .missed) ≤ date
+  pub counts : x .timer + cyclesAsked x ≤ date
+  pub missed : x .timer + x .missed ≤ date
   pub longest : x .longest ≤ mostTicks
   pub opened : x .opened ≤ date
 
@@ -143,8 +144,9 @@ module _ (K : Table) (date t : ℕ) (x : Task) where
       let holder = and-both (holderOk K t (x .holder)) _ (timer .1) in
       let waits = and-both (waitingOk x) _ (holder .1) in
       let counts = and-both (countsOk date x) _ (waits .1) in
-      let longest = and-both (longestOk x) _ (counts .1) in
-      record { timer = leb→le _ _ (timer .0); holder = holder .0; waits = waits .0; counts = leb→le _ _ (counts .0); longest = leb→le _ _ (longest .0); opened = leb→le _ _ (longest .1) }
+      let missed = and-both (missedOk date x) _ (counts .1) in
+      let longest = and-both (longestOk x) _ (missed .1) in
+      record { timer = leb→le _ _ (timer .0); holder = holder .0; waits = waits .0; counts = leb→le _ _ (counts .0); missed = leb→le _ _ (missed .0); longest = leb→le _ _ (longest .0); opened = leb→le _ _ (longest .1) }
 
   pub of-task : FineTask K date t x → T (fineTask K date t x)
   of-task f =
@@ -152,8 +154,9 @@ module _ (K : Table) (date t : ℕ) (x : Task) where
       (and-i (holderOk K t (x .holder)) _ (f .holder)
       (and-i (waitingOk x) _ (f .waits)
       (and-i (countsOk date x) _ (le→leb _ _ (f .counts))
+      (and-i (missedOk date x) _ (le→leb _ _ (f .missed))
       (and-i (longestOk x) _ (le→leb _ _ (f .longest))
-      (le→leb _ _ (f .opened))))))
+      (le→leb _ _ (f .opened)))))))
 
 -- who holds
 pub held-is : (h : Holder) (a : ℕ) → T (heldBy h a) → h ≡ Activity a

@@ -2,7 +2,7 @@
 use mathlib.Core.Bool.{Bool, true, false, not}
 use mathlib.Core.Path.{_≡_, refl, ap, sym, subst, subst⁻¹, subst₂, _∙_}
 use mathlib.Core.Logic.{inl, inr, ⊎-elim}
-use mathlib.Core.List.{List, [], _∷_}
+use mathlib.Core.List.{List, [], _∷_, _++_}
 use Prim.Native.Nat.{ℕ, zero, suc, _+_, _≤_, _<_, zero-le}
 use native.Mathlib.Omega.{arith}
 use borrow.Author.Tests.{eq-eqb, ne-eqb}
@@ -247,3 +247,17 @@ pub reached-sound : (K : Table) → Formed K → (xs : List Step) (s : State) �
 unfolding allAccepted reached
 reached-sound K F [] s S ok = S
 reached-sound K F (x ∷ xs) s S ok = let now = and-both (accepted (refusal K s x)) _ ok in reached-sound K F xs (next K s x) (step-keeps K F s S x (eqb→eq _ _ (now .0))) (now .1)
+
+-- steps in two parts: the second is accepted from the state that the first reaches
+pub parts-reached : (K : Table) (ys zs : List Step) (s : State) → reached K s (ys ++ zs) ≡ reached K (reached K s ys) zs
+unfolding reached
+parts-reached K [] zs s = refl
+parts-reached K (y ∷ ys) zs s = parts-reached K ys zs (next K s y)
+
+pub parts-accepted : (K : Table) (ys zs : List Step) (s : State) → T (allAccepted K s (ys ++ zs)) → T (allAccepted K s ys) × T (allAccepted K (reached K s ys) zs)
+unfolding allAccepted reached
+parts-accepted K [] zs s ok = (tt, ok)
+parts-accepted K (y ∷ ys) zs s ok =
+    let now = and-both (accepted (refusal K s y)) _ ok in
+    let rest = parts-accepted K ys zs (next K s y) (now .1) in
+    (and-i (accepted (refusal K s y)) _ (now .0) (rest .0), rest .1)

@@ -16,15 +16,16 @@ use Rattle.model.specs.declared.ActStep.the-variants.{Lm, Ia, Ea, Cx, Fa
 use Rattle.model.specs.declared.Step.{Step}
 use Rattle.model.specs.declared.Step.the-variants.{Wait, Sm, OfTask, OfAct}
 
-unfoldable pub tableK : Table
-tableK = record {
+-- one task with one activity, and its keep
+abbrev pub oneTask : ℕ → Table
+oneTask k = record {
   ntasks = 1;
   nacts = 1;
   ncodels = 1;
   nedges = 1;
   nmutex = 0;
   period = λ t. 10;
-  keep = λ t. 5;
+  keep = λ t. k;
   task = λ a. 0;
   owner = λ c. 0;
   kind = λ c. 0;
@@ -32,6 +33,9 @@ tableK = record {
   edge = λ e. record { source = 0; target = Ether; pause = false };
   mutex = λ m. record { lo = 0; hi = 0 };
 }
+
+unfoldable pub tableK : Table
+tableK = oneTask 5
 
 -- "Table M: two tasks, each `10 5` with one activity, one start codel of limit 4 with a `run` edge to ether, and `mutex 0 1`."
 unfoldable pub tableM : Table
@@ -154,9 +158,9 @@ logK =
     wait 10 ∷ st 0 ∷ sm 0 1 0 ∷ lm 0 0 ∷ ea 0 0 ∷ wait 10 ∷ st 0 ∷ wait 10 ∷ fa 0 Ether ∷ fm 0
     ∷ sm 0 0 1 ∷ lm 0 0 ∷ ia 0 ∷ fm 0 ∷ st 0 ∷ sm 0 0 1 ∷ lm 0 0 ∷ ia 0 ∷ fm 0 ∷ []
 
--- "kept 0 1 10 30 0 20", "sum 19 30 3 1 2 0 11 0 0"
+-- "kept 0 1 10 30 1 20" (document 02), "sum 19 30 3 1 2 0 11 0 0"
 unfoldable pub reportK : Report
 reportK = record {
-  kept = record { task = 0; cycle = 1; opened = 10; closed = 30; missed = 0; longest = 20 } ∷ [];
+  kept = record { task = 0; cycle = 1; opened = 10; closed = 30; missed = 1; longest = 20 } ∷ [];
   sum = record { steps = 19; date = 30; opened = 3; kept = 1; dropped = 2; managing = 0; most = 11; refusal = 0; line = 0 };
 }

@@ -1,10 +1,10 @@
 -- Cycles, their verdicts, and the report's rows as values.
-use mathlib.Core.Bool.{Bool, true, false, cond}
+use mathlib.Core.Bool.{Bool, true, false, not, cond}
 use mathlib.Core.List.{List, [], _∷_}
 use Prim.Native.Nat.{ℕ, zero, suc, _+_, _-_}
 use lib.ListN.{length}
-use lib.Dec.{leb}
-use Rattle.model.specs.Tests.{_or_, one, sum, accepted}
+use lib.Dec.{leb, eqb}
+use Rattle.model.specs.Tests.{_and_, _or_, one, sum, accepted}
 use Rattle.model.specs.Tables.{Table}
 use Rattle.model.specs.States.{taskAt}
 use Rattle.model.specs.Rules.{refusal, lineRefusal, next}
@@ -67,6 +67,36 @@ opens (OfAct a k) = 0
 unfoldable pub openedIn : List Step → ℕ
 openedIn [] = 0
 openedIn (x ∷ xs) = opens x + openedIn xs
+
+-- how many of the steps are `st` of the task t, and whether none is its `fm`, so that its cycle stays open
+abbrev pub signals : ℕ → Step → Bool
+signals t (Wait d) = false
+signals t (Sm u n r) = false
+signals t (OfTask u St) = eqb u t
+signals t (OfTask u Fm) = false
+signals t (OfAct a k) = false
+
+unfoldable pub signalsIn : ℕ → List Step → ℕ
+signalsIn t [] = 0
+signalsIn t (x ∷ xs) = one (signals t x) + signalsIn t xs
+
+abbrev pub closes : ℕ → Step → Bool
+closes t (Wait d) = false
+closes t (Sm u n r) = false
+closes t (OfTask u St) = false
+closes t (OfTask u Fm) = eqb u t
+closes t (OfAct a k) = false
+
+unfoldable pub staysOpen : ℕ → List Step → Bool
+staysOpen t [] = true
+staysOpen t (x ∷ xs) = not (closes t x) and staysOpen t xs
+
+-- a cycle of t as the log tells it: opened by an `sm` in s, closed by an `fm` in z, with n signals between them
+abbrev pub cycleRow : State → State → ℕ → ℕ → KeptRow
+cycleRow s z t n = record { task = t; cycle = taskAt s t .cycle + 1; opened = s .date; closed = z .date; missed = n; longest = taskAt z t .longest }
+
+abbrev pub cycleVerdict : Table → State → State → ℕ → ℕ → Verdict
+cycleVerdict K s z t n = cond (leb (K .keep t) (z .date - s .date) or leb 1 n) (kept (cycleRow s z t n)) dropped
 
 -- the kept cycles as they close, and how many are dropped
 abbrev pub withKept : Verdict → List KeptRow → List KeptRow

@@ -51,7 +51,7 @@ unfoldable pub anew : {A : Type 0} → ℕ → (ℕ → A → A) → A → List 
 anew zero f d l = l
 anew (suc n) f d l = set (anew n f d l) n (f n (getD l n d))
 
--- "`st` task: timer equals the period. Timer 0, signal set; if it was set already while managing, missed grows by 1."
+-- "`st` task: timer equals the period. Timer 0, signal set"
 abbrev pub stRefusal : Table → State → ℕ → ℕ
 stRefusal K s t =
     need (ltb t (K .ntasks)) 12
@@ -62,8 +62,12 @@ abbrev pub oneMore : Bool → ℕ → ℕ
 oneMore true n = n + 1
 oneMore false n = n
 
+-- "missed grows at each `st` accepted while the cycle is open, set or not" (document 02)
+abbrev pub misses : Task → Bool
+misses x = x .managing
+
 abbrev pub signalled : Task → Task
-signalled x = withTimer 0 (withSignal true (withMissed (oneMore ((x .signal) and (x .managing)) (x .missed)) x))
+signalled x = withTimer 0 (withSignal true (withMissed (oneMore (misses x) (x .missed)) x))
 
 abbrev pub stNext : State → ℕ → State
 stNext s t = putTask s t (signalled (taskAt s t))

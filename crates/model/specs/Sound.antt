@@ -88,9 +88,15 @@ holderOk K t (Activity a) = ltb a (K .nacts) and eqb (K .task a) t
 abbrev pub waitingOk : Task → Bool
 waitingOk x = not (x .managing) implies (byManager (x .holder) and eqb (x .opened) 0 and eqb (x .missed) 0 and eqb (x .longest) 0)
 
--- "Cycle number + signal (0 or 1) + missed is at most date minus timer, which is not below 0"
+-- "cycle number plus signal is at most date minus timer, and so is missed" (document 02); date minus timer "is not below 0"
+abbrev pub cyclesAsked : Task → ℕ
+cyclesAsked x = x .cycle + one (x .signal)
+
 abbrev pub countsOk : ℕ → Task → Bool
-countsOk date x = leb (x .timer + (x .cycle + one (x .signal) + x .missed)) date
+countsOk date x = leb (x .timer + cyclesAsked x) date
+
+abbrev pub missedOk : ℕ → Task → Bool
+missedOk date x = leb (x .timer + x .missed) date
 
 -- "longest is at most 1,000,000,000"
 abbrev pub longestOk : Task → Bool
@@ -100,14 +106,20 @@ longestOk x = leb (x .longest) mostTicks
 abbrev pub openedOk : ℕ → Task → Bool
 openedOk date x = leb (x .opened) date
 
+-- those that ask the task's numbers and the date alone
+abbrev pub fineNumbers : ℕ → Task → Bool
+fineNumbers date x =
+    countsOk date x
+    and missedOk date x
+    and longestOk x
+    and openedOk date x
+
 abbrev pub fineTask : Table → ℕ → ℕ → Task → Bool
 fineTask K date t x =
     timerOk K t x
     and holderOk K t (x .holder)
     and waitingOk x
-    and countsOk date x
-    and longestOk x
-    and openedOk date x
+    and fineNumbers date x
 
 -- "no executing conflict pair"
 abbrev pub apart : Table → State → ℕ → Bool

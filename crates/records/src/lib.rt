@@ -251,7 +251,7 @@ pub fn in_lists(y: Act, run: bool, halt: bool) -> Act
     act_anew(v)
 }
 
-// "Timer 0, signal set; if it was set already while managing, missed grows by 1."
+// "Timer 0, signal set"; "missed grows at each `st` accepted while the cycle is open, set or not".
 fn fired(x: Task) -> Task
     requires { ⌜ x .missed ≤ ceiling ⌝ }
     ensures { λ r. ⌜ r ≡ signalled x ⌝ }
@@ -259,17 +259,14 @@ fn fired(x: Task) -> Task
     let mut u = x;
     u.timer = 0;
     u.signal = true;
-    if x.signal {
-        if x.managing {
-            u.missed = x.missed + 1;
-            return u;
-        }
+    if x.managing {
+        u.missed = x.missed + 1;
         return u;
     }
     u
 }
 
-// "Timer 0, signal set; if it was set already while managing, missed grows by 1", on a task's record that is lent.
+// The same on a task's record that is lent.
 fn fire(x: &mut Task)
     requires { ⌜ now x .missed ≤ ceiling ⌝ }
     ensures { λ _. ⌜ now (x .exit) ≡ signalled (now (x .entry)) ⌝ }

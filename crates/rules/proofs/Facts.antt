@@ -48,7 +48,7 @@ module _ (K : Table) (s : State) (S : Sound K s) where
 
   -- missed fits, and so do timers and clocks
   pub missed-fits : (t : ℕ) → t < K .ntasks → taskAt s t .missed ≤ ceiling
-  missed-fits t h = omega (arith, task-at K s S t h .counts, S .date)
+  missed-fits t h = omega (arith, task-at K s S t h .missed, S .date)
 
 module _ (K : Table) (F : Formed K) (s : State) (S : Sound K s) where
   pub timer-fits : (t : ℕ) → taskAt s t .timer ≤ mostTicks

@@ -64,23 +64,20 @@ module _ (r n k : ℕ) (e : r ≡ n) where
   pub no-row : (b : Bool) → r ≤ k → false ≡ (ltb k n and b)
   no-row b h = rw (le-ltb k n (omega arith))
 
--- a sum of four is at most a number: each is taken off in turn
-module _ (d t c g m : ℕ) where
-  pub less-first : d < t → false ≡ leb (t + (c + g + m)) d
-  less-first h = sym (lt-leb (t + (c + g + m)) d (omega arith))
+-- a sum is at most a number: its terms are taken off in turn
+module _ (d t n : ℕ) where
+  pub less-first : d < t → false ≡ leb (t + n) d
+  less-first h = sym (lt-leb (t + n) d (omega arith))
 
-  pub less-second : t ≤ d → d - t < c → false ≡ leb (t + (c + g + m)) d
-  less-second h i = sym (lt-leb (t + (c + g + m)) d (omega arith))
+  pub less-last : t ≤ d → leb n (d - t) ≡ leb (t + n) d
+  less-last h = agree _ _ (λ k. le-leb (t + n) d (omega (arith, leb-true n (d - t) k))) (λ k. le-leb n (d - t) (omega (arith, leb-true (t + n) d k)))
 
-  module _ (x : ℕ) (e : x ≡ g) (h : t ≤ d) (i : c ≤ d - t) where
-    pub less-third : d - t - c < x → false ≡ leb (t + (c + g + m)) d
-    less-third j = sym (lt-leb (t + (c + g + m)) d (omega arith))
+module _ (d t c g : ℕ) (h : t ≤ d) where
+  pub less-second : d - t < c → false ≡ leb (t + (c + g)) d
+  less-second i = sym (lt-leb (t + (c + g)) d (omega arith))
 
-    pub less-last : x ≤ d - t - c → leb m (d - t - c - x) ≡ leb (t + (c + g + m)) d
-    less-last j =
-        agree _ _
-        (λ k. le-leb (t + (c + g + m)) d (omega (arith, leb-true m (d - t - c - x) k)))
-        (λ k. le-leb m (d - t - c - x) (omega (arith, leb-true (t + (c + g + m)) d k)))
+  pub less-third : (x : ℕ) → x ≡ g → c ≤ d - t → leb x (d - t - c) ≡ leb (t + (c + g)) d
+  less-third x e i = rw e (less-last (d - t) c g i ∙ less-last d t (c + g) h)
 
 -- the parts one after the other, each told by its result
 pub ruleset chain = (stops, goes, no-by, yes-by)
@@ -88,4 +85,4 @@ pub ruleset chain = (stops, goes, no-by, yes-by)
 -- those that are tests of numbers
 pub ruleset numbers = (over, within, le-leb, lt-leb, eq-eqb, ne-eqb)
 
-pub ruleset sums = (less-first, less-second, less-third, less-last)
+pub ruleset sums = (less-first, less-last, less-second, less-third)

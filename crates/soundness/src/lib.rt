@@ -6,7 +6,7 @@ ghost use Rattle.model.specs.Tests.{_and_, _implies_, one, each};
 ghost use Rattle.model.specs.Limits.{mostTasks, mostActs};
 ghost use Rattle.model.specs.Tables.{known};
 ghost use Rattle.model.specs.States.{taskAt, actAt, runs};
-ghost use Rattle.model.specs.Sound.{atOwn, mayRest, setsWhileManaging, restsUnlessRunning, listedAtEther, stillAtEther, executesWhenSafe, clockOk, finePlace, fineAct, holderOk, waitingOk, countsOk, fineTask, apart, isFreshTask, isFreshAct, freshPast, sound};
+ghost use Rattle.model.specs.Sound.{atOwn, mayRest, setsWhileManaging, restsUnlessRunning, listedAtEther, stillAtEther, executesWhenSafe, clockOk, finePlace, fineAct, holderOk, waitingOk, countsOk, missedOk, fineNumbers, fineTask, apart, isFreshTask, isFreshAct, freshPast, sound};
 ghost use Rattle.prepared.specs.Prepared.{tableIn, Prepared};
 ghost use Rattle.soundness.specs.Marks.{pauseMarks};
 use model::Act;
@@ -81,7 +81,7 @@ fn number_of(b: bool) -> u64
     0
 }
 
-// "Cycle number + signal (0 or 1) + missed is at most date minus timer, which is not below 0"; each is taken off the date in turn.
+// "cycle number plus signal is at most date minus timer", which "is not below 0"; each is taken off the date in turn.
 fn counts_ok(date: u64, x: Task) -> bool
     ensures { λ r. ⌜ r ≡ countsOk date x ⌝ }
 {
@@ -92,12 +92,33 @@ fn counts_ok(date: u64, x: Task) -> bool
     if a < x.cycle {
         return false;
     }
-    let b = a - x.cycle;
-    let g = number_of(x.signal);
-    if g <= b {
-        return x.missed <= b - g;
+    number_of(x.signal) <= a - x.cycle
+}
+
+// "and so is missed"
+fn missed_ok(date: u64, x: Task) -> bool
+    ensures { λ r. ⌜ r ≡ missedOk date x ⌝ }
+{
+    if date < x.timer {
+        return false;
     }
-    false
+    x.missed <= date - x.timer
+}
+
+// The sentences that ask the task's numbers and the date alone.
+fn fine_numbers(date: u64, x: Task) -> bool
+    ensures { λ r. ⌜ r ≡ fineNumbers date x ⌝ }
+{
+    if !counts_ok(date, x) {
+        return false;
+    }
+    if !missed_ok(date, x) {
+        return false;
+    }
+    if model::MOST_TICKS < x.longest {
+        return false;
+    }
+    x.opened <= date
 }
 
 // The sentences on one task.
@@ -115,13 +136,7 @@ fn fine_task(rows: &[u32], index: &[u32], date: u64, t: usize, x: Task) -> bool
     if !waiting_ok(x) {
         return false;
     }
-    if !counts_ok(date, x) {
-        return false;
-    }
-    if model::MOST_TICKS < x.longest {
-        return false;
-    }
-    x.opened <= date
+    fine_numbers(date, x)
 }
 
 // "each activity at ether or a codel of its own"

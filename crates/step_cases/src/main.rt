@@ -83,7 +83,7 @@ fn show_k(t: Table, s: State) {
         b"wait\t10\nst\t0\nsm\t0\t0000000000000001\t0000000000000000\nlm\t0\t0\nea\t0\t0\nwait\t1\nfa\t0\tether\nfm\t0\n",
     );
     show(
-        b"K, a signal missed while managing",
+        b"K, two signals while managing",
         t,
         s,
         b"wait\t10\nst\t0\nsm\t0\t0000000000000001\t0000000000000000\nlm\t0\t0\nea\t0\t0\nwait\t10\nst\t0\nwait\t10\nst\t0\n",
@@ -119,12 +119,22 @@ fn show_given(t: Table, fresh: State) {
     s.date = 20;
     s.tasks[0].timer = 10;
     s.tasks[0].signal = true;
-    show(b"K, a signal missed while waiting", t, s, b"st\t0\n");
+    show(b"K, a second signal while waiting", t, s, b"st\t0\n");
     s.tasks[0].timer = 11;
     show(b"K, a timer past its period", t, s, b"st\t0\nno step\n");
     s.tasks[0].timer = 0;
     s.tasks[0].missed = 1;
     show(b"K, missed while waiting", t, s, b"wait\t1\n");
+}
+
+// A period of one tick: at date 2 cycle number, signal and missed are 3 together, more than date minus timer, and the state is sound.
+fn show_late(t: Table, s: State) {
+    show(
+        b"a period of 1, late from date 2 on",
+        t,
+        s,
+        b"wait\t1\nst\t0\nsm\t0\t0000000000000001\t0000000000000000\nlm\t0\t0\nea\t0\t0\nwait\t1\nst\t0\nwait\t1\nst\t0\nfa\t0\tether\n",
+    );
 }
 
 fn show_tables(t: Table, s: State) {
@@ -143,10 +153,14 @@ fn main() {
     let m = table::read_table(
         b"task\t10\t5\ntask\t10\t5\nact\t0\nact\t1\ncodel\t0\tstart\t4\ncodel\t1\tstart\t4\nedge\t0\tether\trun\nedge\t1\tether\trun\nmutex\t0\t1\nend\t9\n",
     );
+    let late = table::read_table(
+        b"task\t1\t5\nact\t0\ncodel\t0\tstart\t20\nedge\t0\tether\trun\nend\t4\n",
+    );
     let g = engine::fresh_going();
     let s = g.state;
     show_k(k.table, s);
     show_m(m.table, s);
     show_given(k.table, s);
+    show_late(late.table, s);
     show_tables(k.table, s);
 }

@@ -1,7 +1,7 @@
 //! sprayer: writes the table of a two-arm vineyard sprayer and the log of a run to the end of a row, examples/sprayer.txt.
 //!
 //! The run is played by a small bench: every codel takes about its usual time, but for what the scenario says. Steering once is slow. Once
-//! there is air in the line, and the pump regulates so long that both arms stand before their valves and miss a signal. At the end of the
+//! there is air in the line, and the pump regulates so long that both arms stand before their valves and miss two signals. At the end of the
 //! row spraying, pressure and steering are interrupted.
 
 use host::model::{apply, State, Step};

@@ -7,13 +7,10 @@ add-u : tie.Need-add-u
 add-u c = search needs
 
 returns : tie.Need-returns
-returns c = rw (c .before .before .if1 .taken, c .before .if2 .taken)
+returns c = rw (c .before .if1 .taken)
 
 returns-2 : tie.Need-returns-2
-returns-2 c = rw (c .before .if1 .taken, c .if2 .left)
-
-returns-3 : tie.Need-returns-3
-returns-3 c = rw (c .if1 .left)
+returns-2 c = rw (c .if1 .left)
 
 pub fired-spec : {M : Type 1} → statement M
-fired-spec = tie.close (tie.spec add-u returns returns-2 returns-3)
+fired-spec = tie.close (tie.spec add-u returns returns-2)

@@ -16,8 +16,5 @@ number-of-requires c κs = search needs
 returns-3 : tie.Need-returns-3
 returns-3 c = search sums
 
-returns-4 : tie.Need-returns-4
-returns-4 c = search sums
-
 pub counts-ok-spec : {M : Type 1} → statement M
-counts-ok-spec = tie.close (tie.spec returns returns-2 number-of-requires returns-3 returns-4)
+counts-ok-spec = tie.close (tie.spec returns returns-2 number-of-requires returns-3)

@@ -22,17 +22,11 @@ waiting-ok-requires c κs = search needs
 returns-3 : tie.Need-returns-3
 returns-3 c = search (chain, numbers) depth 12
 
-counts-ok-requires : tie.Need-counts-ok-requires
-counts-ok-requires c κs = search needs
+fine-numbers-requires : tie.Need-fine-numbers-requires
+fine-numbers-requires c κs = search needs
 
 returns-4 : tie.Need-returns-4
 returns-4 c = search (chain, numbers) depth 12
-
-returns-5 : tie.Need-returns-5
-returns-5 c = search (chain, numbers) depth 12
-
-returns-6 : tie.Need-returns-6
-returns-6 c = search (chain, numbers) depth 12
 
 pub fine-task-spec : {M : Type 1} → statement M
 fine-task-spec =
@@ -44,7 +38,5 @@ fine-task-spec =
     returns-2
     waiting-ok-requires
     returns-3
-    counts-ok-requires
-    returns-4
-    returns-5
-    returns-6)
+    fine-numbers-requires
+    returns-4)
