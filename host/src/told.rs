@@ -5,11 +5,13 @@ use crate::walk::Case;
 
 /// Table K of the page.
 pub const K: &str = "task 10 5, act 0, codel 0 start 20, edge 0 ether run, end 4";
-/// Table K and its log as document 01 prints them, and its report as document 02 has it.
+/// Table K as document 01 prints it.
 pub const K_TABLE: &str = "task\t10\t5\nact\t0\ncodel\t0\tstart\t20\nedge\t0\tether\trun\nend\t4\n";
+/// The log of table K as document 01 prints it.
 pub const K_LOG: &str = "wait\t10\nst\t0\nsm\t0\t0000000000000001\t0000000000000000\nlm\t0\t0\nea\t0\t0\nwait\t10\nst\t0\nwait\t10\nfa\t0\tether\n\
                          fm\t0\nsm\t0\t0000000000000000\t0000000000000001\nlm\t0\t0\nia\t0\nfm\t0\nst\t0\n\
                          sm\t0\t0000000000000000\t0000000000000001\nlm\t0\t0\nia\t0\nfm\t0\n";
+/// The report on it, with the `kept` row of document 02.
 pub const K_REPORT: &str = "cycles\t1\nkept\t0\t1\t10\t30\t1\t20\nsum\t19\t30\t3\t1\t2\t0\t11\t0\t0\n";
 /// Table M of the page.
 pub const M: &str = "task 10 5, task 10 5, act 0, act 1, codel 0 start 4, codel 1 start 4, edge 0 ether run, edge 1 ether run, mutex 0 1, \

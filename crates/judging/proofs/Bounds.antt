@@ -33,7 +33,7 @@ use Rattle.model.specs.declared.Line.{Line}
 use Rattle.model.specs.declared.Line.the-variants.{Is, Bad}
 use Rattle.model.proofs.Tests.{and-both, each-at}
 use Rattle.model.proofs.Formed.{Formed, formed}
-use Rattle.model.proofs.Soundness.{Sound, sound-of, fresh-shaped, fresh-sound, task-at}
+use Rattle.model.proofs.Soundness.{Sound, start-sound, task-at}
 use Rattle.model.proofs.Accepted.{fm-goes}
 use Rattle.model.proofs.StepsKeep.{step-keeps}
 use Rattle.model.proofs.Verdicts.{verdict-at-fm}
@@ -90,7 +90,7 @@ step-row K F s S (Wait d) ok = omega arith
 step-row K F s S (Sm t n r) ok = omega arith
 step-row K F s S (OfTask t St) ok = omega arith
 step-row K F s S (OfAct a k) ok = omega arith
-step-row K F s S (OfTask t Fm) ok = go (keeps K s t)
+step-row K F s S (OfTask t Fm) ok = go (keeps K (keptRow s t))
   where
     go : (b : Bool) → length (verdictText (cond b (kept (keptRow s t)) dropped)) ≤ 75 * keepsOne (cond b (kept (keptRow s t)) dropped)
     go true = row-length (keptRow s t) (cycle-small K F s S t (fm-goes K s t ok .inT))
@@ -216,7 +216,7 @@ module _ (K : Table) (wf : T (wellformed K)) (log : List ℕ) where
   text-bound =
       let ls = linesIn (splitOn 10 log) in
       let xs = stepsOf K fresh ls in
-      let rows = rows-length K (formed K wf) xs fresh (sound-of K fresh fresh-shaped (fresh-sound K)) (steps-accepted K fresh ls) in
+      let rows = rows-length K (formed K wf) xs fresh (start-sound K) (steps-accepted K fresh ls) in
       let sum = sum-length (reportOf K fresh xs (stopOn K fresh ls) .sum) in
       simp length-append (omega (arith, kept-bound, head-length))
 

@@ -13,7 +13,7 @@ use Rattle.model.specs.Rows.{wellformed}
 use Rattle.model.specs.States.{fresh}
 use Rattle.model.specs.Rules.{next}
 use Rattle.model.specs.Logs.{allAccepted, reached, most}
-use Rattle.model.specs.Cycles.{Verdict, none, kept, dropped, KeptRow, Report, verdict, isFm, isVerdict, signalsIn, staysOpen, cycleVerdict, withKept, keptIn, stepsOf, stopOn, report}
+use Rattle.model.specs.Cycles.{Verdict, none, kept, dropped, KeptRow, Report, verdict, verdictOn, isFm, isVerdict, signalsIn, staysOpen, cycleRow, withKept, keptIn, stepsOf, stopOn, report}
 use Rattle.model.specs.declared.State.{State}
 use Rattle.model.specs.declared.TaskStep.the-variants.{Fm}
 use Rattle.model.specs.declared.Step.{Step}
@@ -89,7 +89,7 @@ pub record Mission (table log : List ℕ) : Type 0 where
   -- "missed grows at each `st` accepted while the cycle is open": each cycle of the log is judged by its own lines
   pub cycles : (ys : List Step) (t : ℕ) (n r : Set) (xs zs : List Step) → stepsDone table log ≡ ys ++ ((Sm t n r ∷ xs) ++ OfTask t Fm ∷ zs) → T (staysOpen t xs)
       → verdict (tableSaid table) (reached (tableSaid table) fresh (ys ++ Sm t n r ∷ xs)) (OfTask t Fm)
-      ≡ cycleVerdict (tableSaid table) (reached (tableSaid table) fresh ys) (reached (tableSaid table) fresh (ys ++ Sm t n r ∷ xs)) t (signalsIn t xs)
+      ≡ verdictOn (tableSaid table) (cycleRow (reached (tableSaid table) fresh ys) (reached (tableSaid table) fresh (ys ++ Sm t n r ∷ xs)) t (signalsIn t xs))
   -- demand 3, at the end of the log and at each place before it
   pub demand : (ys zs : List Step) → stepsDone table log ≡ ys ++ zs → DemandThree (tableSaid table) fresh ys
 

@@ -27,7 +27,7 @@ use Rattle.model.specs.declared.Step.the-variants.{Wait, Sm, OfTask, OfA
 use Rattle.model.proofs.Tests.{T-true, T-false, and-both}
 use Rattle.model.proofs.Rows.{anew-at}
 use Rattle.model.proofs.Formed.{Formed, formed}
-use Rattle.model.proofs.Soundness.{Sound, sound-of, fresh-task, fresh-shaped, fresh-sound}
+use Rattle.model.proofs.Soundness.{Sound, fresh-task, start-sound}
 use Rattle.model.proofs.Accepted.{st-goes, sm-goes, lm-goes, ia-goes, ea-goes, cx-goes, fa-goes, fm-goes}
 use Rattle.model.proofs.Frames.{in-tasks}
 use Rattle.model.proofs.StepsKeep.{step-keeps}
@@ -100,4 +100,4 @@ fresh-managing K = omega (arith, sum-bound (K .ntasks) 0 (λ t. one (taskAt fres
 
 -- from the fresh state: "Opened (accepted `sm`) equals kept plus dropped plus the tasks managing at the end."
 pub balance : (K : Table) → T (wellformed K) → (xs : List Step) → T (allAccepted K fresh xs) → openedIn xs ≡ length (keptIn K fresh xs) + droppedIn K fresh xs + managing K (reached K fresh xs)
-balance K wf xs ok = omega (arith, balance-from K (formed K wf) xs fresh (sound-of K fresh fresh-shaped (fresh-sound K)) ok, fresh-managing K)
+balance K wf xs ok = omega (arith, balance-from K (formed K wf) xs fresh (start-sound K) ok, fresh-managing K)

@@ -15,7 +15,7 @@ use Rattle.model.specs.Rows.{wellformed}
 use Rattle.model.specs.States.{noTask, fresh, taskAt, actAt, byManager}
 use Rattle.model.specs.Rules.{held, signalled, managed, stopOf, iaTo, closed, timed, refusal, next}
 use Rattle.model.specs.Logs.{allAccepted, reached}
-use Rattle.model.specs.Cycles.{verdict, signals, signalsIn, closes, staysOpen, cycleVerdict}
+use Rattle.model.specs.Cycles.{verdict, signals, signalsIn, closes, staysOpen, cycleRow, verdictOn}
 use Rattle.model.specs.declared.Task.{Task}
 use Rattle.model.specs.declared.State.{State}
 use Rattle.model.specs.declared.Place.{Place}
@@ -29,7 +29,7 @@ use Rattle.model.specs.declared.Step.the-variants.{Wait, Sm, OfTask, OfA
 use Rattle.model.proofs.Tests.{T-true, and-l, and-r, and-both, imp-e}
 use Rattle.model.proofs.Rows.{set-cases, anew-at}
 use Rattle.model.proofs.Formed.{Formed, formed}
-use Rattle.model.proofs.Soundness.{Sound, sound-of, fresh-shaped, fresh-sound, task-at}
+use Rattle.model.proofs.Soundness.{Sound, start-sound, task-at}
 use Rattle.model.proofs.Accepted.{st-goes, sm-goes, lm-goes, ia-goes, ea-goes, cx-goes, fa-goes, fm-goes}
 use Rattle.model.proofs.Frames.{in-tasks}
 use Rattle.model.proofs.StepsKeep.{step-keeps, parts-accepted, parts-reached, reached-sound}
@@ -101,7 +101,7 @@ stays-open K F t ht (y ∷ xs) s S m ok on =
 -- from a sound state: a cycle that `sm` opens and `fm` closes is kept exactly if it took its task's keep, or a signal came while it was open; its
 -- row has as missed how many came
 pub cycle-told-from : (K : Table) → Formed K → (s : State) → Sound K s → (t : ℕ) (n r : Set) (xs : List Step) → T (allAccepted K s (Sm t n r ∷ xs)) → T (staysOpen t xs)
-    → verdict K (reached K s (Sm t n r ∷ xs)) (OfTask t Fm) ≡ cycleVerdict K s (reached K s (Sm t n r ∷ xs)) t (signalsIn t xs)
+    → verdict K (reached K s (Sm t n r ∷ xs)) (OfTask t Fm) ≡ verdictOn K (cycleRow s (reached K s (Sm t n r ∷ xs)) t (signalsIn t xs))
 unfolding allAccepted reached verdict refusal next
 cycle-told-from K F s S t n r xs ok on =
     let now = and-both (accepted (refusal K s (Sm t n r))) _ ok in
@@ -119,9 +119,9 @@ cycle-told-from K F s S t n r xs ok on =
 
 -- the same of every cycle of a log that is accepted from the fresh state
 pub cycle-told : (K : Table) → T (wellformed K) → (ys : List Step) (t : ℕ) (n r : Set) (xs zs : List Step) → T (allAccepted K fresh (ys ++ ((Sm t n r ∷ xs) ++ zs))) → T (staysOpen t xs)
-    → verdict K (reached K fresh (ys ++ Sm t n r ∷ xs)) (OfTask t Fm) ≡ cycleVerdict K (reached K fresh ys) (reached K fresh (ys ++ Sm t n r ∷ xs)) t (signalsIn t xs)
+    → verdict K (reached K fresh (ys ++ Sm t n r ∷ xs)) (OfTask t Fm) ≡ verdictOn K (cycleRow (reached K fresh ys) (reached K fresh (ys ++ Sm t n r ∷ xs)) t (signalsIn t xs))
 cycle-told K wf ys t n r xs zs ok on =
     let F = formed K wf in
     let parts = parts-accepted K ys ((Sm t n r ∷ xs) ++ zs) fresh ok in
-    let S = reached-sound K F ys fresh (sound-of K fresh fresh-shaped (fresh-sound K)) (parts .0) in
+    let S = reached-sound K F ys fresh (start-sound K) (parts .0) in
     rw (parts-reached K ys (Sm t n r ∷ xs) fresh) (cycle-told-from K F (reached K fresh ys) S t n r xs (parts-accepted K (Sm t n r ∷ xs) zs (reached K fresh ys) (parts .1) .0) on)

@@ -85,8 +85,8 @@ fresh-act a = same-row mostActs a noAct
 pub fresh-shaped : Shaped fresh
 fresh-shaped = record { tasks = refl; acts = refl }
 
-pub fresh-sound : (K : Table) → T (sound K fresh)
-fresh-sound K = of-sound K fresh (record {
+pub start-sound : (K : Table) → Sound K fresh
+start-sound K = record {
   shape = fresh-shaped;
   date = lit≤ tt;
   tasks = λ t h. subst⁻¹ (λ x. T (fineTask K 0 t x)) (fresh-task t) (and-i (leb 0 (K .period t)) _ (le→leb 0 (K .period t) zero-le) tt);
@@ -94,7 +94,10 @@ fresh-sound K = of-sound K fresh (record {
   pairs = λ m h. rw (fresh-act (K .owner (K .mutex m .lo))) tt;
   restT = λ t l h. rw (fresh-task t) tt;
   restA = λ a l h. rw (fresh-act a) tt;
-})
+}
+
+pub fresh-sound : (K : Table) → T (sound K fresh)
+fresh-sound K = of-sound K fresh (start-sound K)
 
 -- the sentences of an activity a, whose record is y and whose task's record is x, by name
 pub record FineAct (K : Table) (a : ℕ) (x : Task) (y : Act) : Type 0 where

@@ -15,7 +15,7 @@ verdict-at-fm K s (Wait d) = refl
 verdict-at-fm K s (Sm t n r) = refl
 verdict-at-fm K s (OfTask t St) = refl
 verdict-at-fm K s (OfAct a k) = refl
-verdict-at-fm K s (OfTask t Fm) = go (keeps K s t)
+verdict-at-fm K s (OfTask t Fm) = go (keeps K (keptRow s t))
   where
     go : (b : Bool) → isVerdict (cond b (kept (keptRow s t)) dropped) ≡ true
     go true = refl

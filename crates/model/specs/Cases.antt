@@ -16,7 +16,7 @@ use Rattle.model.specs.declared.ActStep.the-variants.{Lm, Ia, Ea, Cx, Fa
 use Rattle.model.specs.declared.Step.{Step}
 use Rattle.model.specs.declared.Step.the-variants.{Wait, Sm, OfTask, OfAct}
 
--- one task with one activity, and its keep
+-- table K, but for its keep
 abbrev pub oneTask : ℕ → Table
 oneTask k = record {
   ntasks = 1;

@@ -9,6 +9,7 @@ use Rattle.model.specs.Tables.{Table}
 use Rattle.model.specs.States.{taskAt}
 use Rattle.model.specs.Rules.{refusal, lineRefusal, next}
 use Rattle.model.specs.Logs.{reached, most}
+use Rattle.model.specs.declared.Task.{Task}
 use Rattle.model.specs.declared.State.{State}
 use Rattle.model.specs.declared.TaskStep.the-variants.{St, Fm}
 use Rattle.model.specs.declared.Step.{Step}
@@ -25,8 +26,12 @@ pub record KeptRow : Type 0 where
   pub missed : ℕ
   pub longest : ℕ
 
+-- of the task t, whose record is x, at a date
+abbrev pub rowAt : ℕ → ℕ → Task → KeptRow
+rowAt t date x = record { task = t; cycle = x .cycle; opened = x .opened; closed = date; missed = x .missed; longest = x .longest }
+
 abbrev pub keptRow : State → ℕ → KeptRow
-keptRow s t = record { task = t; cycle = taskAt s t .cycle; opened = taskAt s t .opened; closed = s .date; missed = taskAt s t .missed; longest = taskAt s t .longest }
+keptRow s t = rowAt t (s .date) (taskAt s t)
 
 pub data Verdict : Type 0 where
   none : Verdict
@@ -34,15 +39,18 @@ pub data Verdict : Type 0 where
   dropped : Verdict
 
 -- "At `fm` a cycle is kept if close date minus open date is at least the task's keep, or missed is at least 1; else dropped."
-abbrev pub keeps : Table → State → ℕ → Bool
-keeps K s t = leb (K .keep t) (s .date - taskAt s t .opened) or leb 1 (taskAt s t .missed)
+abbrev pub keeps : Table → KeptRow → Bool
+keeps K r = leb (K .keep (r .task)) (r .closed - r .opened) or leb 1 (r .missed)
+
+abbrev pub verdictOn : Table → KeptRow → Verdict
+verdictOn K r = cond (keeps K r) (kept r) dropped
 
 -- "No earlier step gives a verdict."
 unfoldable pub verdict : Table → State → Step → Verdict
 verdict K s (Wait d) = none
 verdict K s (Sm t n r) = none
 verdict K s (OfTask t St) = none
-verdict K s (OfTask t Fm) = cond (keeps K s t) (kept (keptRow s t)) dropped
+verdict K s (OfTask t Fm) = verdictOn K (keptRow s t)
 verdict K s (OfAct a k) = none
 
 abbrev pub isFm : Step → Bool
@@ -94,9 +102,6 @@ staysOpen t (x ∷ xs) = not (closes t x) and staysOpen t xs
 -- a cycle of t as the log tells it: opened by an `sm` in s, closed by an `fm` in z, with n signals between them
 abbrev pub cycleRow : State → State → ℕ → ℕ → KeptRow
 cycleRow s z t n = record { task = t; cycle = taskAt s t .cycle + 1; opened = s .date; closed = z .date; missed = n; longest = taskAt z t .longest }
-
-abbrev pub cycleVerdict : Table → State → State → ℕ → ℕ → Verdict
-cycleVerdict K s z t n = cond (leb (K .keep t) (z .date - s .date) or leb 1 n) (kept (cycleRow s z t n)) dropped
 
 -- the kept cycles as they close, and how many are dropped
 abbrev pub withKept : Verdict → List KeptRow → List KeptRow

@@ -14,7 +14,7 @@ use Rattle.model.specs.Rows.{wellformed}
 use Rattle.model.specs.States.{fresh}
 use Rattle.model.specs.declared.State.{State}
 use Rattle.model.proofs.Formed.{formed}
-use Rattle.model.proofs.Soundness.{Sound, sound-of, fresh-shaped, fresh-sound}
+use Rattle.model.proofs.Soundness.{Sound, start-sound}
 use Rattle.log.specs.Lines.{longestLine}
 use Rattle.table.specs.Tables.{tableOf}
 use Rattle.table.specs.Texts.{longest, readTable}
@@ -116,7 +116,7 @@ module _ (room : ℕ) (ended : Bool) (rest : List ℕ) (o : ended ≡ true → r
           → Tells ended (answerText (readTable table .table) (log ++ rest) ns) (onTable room ended (readTable table .table) ns log) rest
       by-numbers [] e =
           let K = tableOf (readTable table .table) in
-          let t = log-told K (fine-wellformed table e) fresh (sound-of K fresh fresh-shaped (fresh-sound K)) noTally log m in
+          let t = log-told K (fine-wellformed table e) fresh (start-sound K) noTally log m in
           record {
             now = log-text K (log ++ rest) ∙ ap (λ l. headText ++ l) (t .now) ∙ sym (append-assoc headText _ _);
             little = t .little;

@@ -3,19 +3,21 @@ use mathlib.Core.Path.{_≡_}
 use Prim.Native.Nat.{ℕ, _+_, _-_, _≤_, _<_, max}
 use borrow.Author.Tests.{le-leb, lt-leb}
 use Rattle.model.specs.Tables.{Table}
+use Rattle.model.specs.Cycles.{rowAt}
 use Rattle.model.specs.declared.Task.{Task}
 use Rattle.model.specs.declared.TaskStep.{TaskStep}
-use Rattle.tally.specs.Tallies.{closedBy, ruledBy, rulingBy, afterWait, afterStep}
+use Rattle.report.specs.Rows.{cycleOf}
+use Rattle.tally.specs.Tallies.{ruledBy, rulingBy, afterWait, afterStep}
 use Rattle.tally.specs.declared.Tally.{Tally}
 use Rattle.tally.specs.declared.Ruling.{Ruling}
 use Rattle.tally.specs.declared.Ruling.the-variants.{Kept, Dropped}
 
 -- the verdict on a cycle that closes
 module _ (K : Table) (t date : ℕ) (x : Task) (k : ℕ) (e : k ≡ K .keep t) where
-  pub kept-long : k ≤ date - x .opened → Kept (closedBy t date x) ≡ ruledBy K t date x
+  pub kept-long : k ≤ date - x .opened → Kept (cycleOf (rowAt t date x)) ≡ ruledBy K t date x
   kept-long h = rw (← e, le-leb k (date - x .opened) h)
 
-  pub kept-missed : date - x .opened < k → 1 ≤ x .missed → Kept (closedBy t date x) ≡ ruledBy K t date x
+  pub kept-missed : date - x .opened < k → 1 ≤ x .missed → Kept (cycleOf (rowAt t date x)) ≡ ruledBy K t date x
   kept-missed n h = rw (← e, lt-leb k (date - x .opened) n, le-leb 1 (x .missed) h)
 
   pub dropped-short : date - x .opened < k → x .missed < 1 → Dropped ≡ ruledBy K t date x

@@ -1,6 +1,6 @@
 -- What an accepted step adds to the tally, by its kind, and that there is room for it.
 use Prim.Native.Nat.{ℕ, _<_}
-use mathlib.Core.Bool.{Bool, true, false}
+use mathlib.Core.Bool.{false}
 use mathlib.Core.Path.{_≡_, refl}
 use native.Mathlib.Omega.{arith}
 use native.Mathlib.Nat.{add-zero}
@@ -8,28 +8,23 @@ use Rattle.text.specs.declared.Set.{Set}
 use Rattle.model.specs.Tables.{Table}
 use Rattle.model.specs.States.{taskAt}
 use Rattle.model.specs.Logs.{isWait}
-use Rattle.model.specs.Cycles.{Verdict, none, kept, dropped, verdict, keeps, opens}
+use Rattle.model.specs.Cycles.{Verdict, none, kept, dropped, verdict, opens}
 use Rattle.model.specs.declared.State.{State}
 use Rattle.model.specs.declared.TaskStep.{TaskStep}
 use Rattle.model.specs.declared.TaskStep.the-variants.{St, Fm}
 use Rattle.model.specs.declared.Step.{Step}
 use Rattle.model.specs.declared.Step.the-variants.{Wait, Sm, OfTask}
-use Rattle.tally.specs.Tallies.{rulingOf, counted, tallied, afterWait, afterSm, afterStep, ruledBy, rulingBy, Roomy}
+use Rattle.tally.specs.Tallies.{rulingOf, counted, tallied, afterWait, afterSm, afterStep, rulingBy, Roomy}
 use Rattle.tally.specs.declared.Tally.{Tally}
 use Rattle.tally.specs.declared.Ruling.{Ruling}
 use Rattle.tally.specs.declared.Ruling.the-variants.{Open, Kept, Dropped}
 
 -- the verdict told by the task's record
 module _ (K : Table) (s : State) where
-  closes : (t : ℕ) (b : Bool) → keeps K s t ≡ b → ruledBy K t (s .date) (taskAt s t) ≡ rulingOf (verdict K s (OfTask t Fm))
-  unfolding verdict
-  closes t true e = rw e
-  closes t false e = rw e
-
   pub ruling-is : (t : ℕ) (k : TaskStep) → rulingBy K t k (s .date) (taskAt s t) ≡ rulingOf (verdict K s (OfTask t k))
   unfolding verdict
   ruling-is t St = refl
-  ruling-is t Fm = closes t (keeps K s t) refl
+  ruling-is t Fm = refl
 
   -- the tally after a step, by its kind
   module _ (c : Tally) where

@@ -1,18 +1,15 @@
 -- What is counted beside a run: the numbers that the `sum` row needs.
-use Prim.Native.Nat.{ℕ, _+_, _-_, _≤_, max}
-use lib.Dec.{leb}
+use Prim.Native.Nat.{ℕ, _+_, _≤_, max}
 use Rattle.text.specs.Parts.{pick}
-use Rattle.model.specs.Tests.{_or_}
 use Rattle.model.specs.Tables.{Table}
 use Rattle.model.specs.Logs.{isWait}
-use Rattle.model.specs.Cycles.{SumRow, managing, lineOf, Verdict, none, kept, dropped, verdict, opens, drops}
+use Rattle.model.specs.Cycles.{SumRow, rowAt, managing, lineOf, Verdict, none, kept, dropped, verdict, verdictOn, opens, drops}
 use Rattle.model.specs.declared.State.{State}
 use Rattle.model.specs.declared.Task.{Task}
 use Rattle.model.specs.declared.TaskStep.{TaskStep}
 use Rattle.model.specs.declared.TaskStep.the-variants.{St, Fm}
 use Rattle.model.specs.declared.Step.{Step}
 use Rattle.report.specs.Rows.{cycleOf}
-use Rattle.report.specs.declared.Cycle.{Cycle}
 use Rattle.tally.specs.declared.Tally.{Tally}
 use Rattle.tally.specs.declared.Ruling.{Ruling}
 use Rattle.tally.specs.declared.Ruling.the-variants.{Open, Kept, Dropped}
@@ -61,11 +58,8 @@ afterStep c (Kept r) = record { steps = c .steps + 1; opened = c .opened; kept =
 afterStep c Dropped = record { steps = c .steps + 1; opened = c .opened; kept = c .kept; dropped = c .dropped + 1; since = c .since + 1; most = c .most }
 
 -- the verdict on a task whose record is x, at a date
-abbrev pub closedBy : ℕ → ℕ → Task → Cycle
-closedBy t date x = record { task = t; cycle = x .cycle; opened = x .opened; closed = date; missed = x .missed; longest = x .longest }
-
 abbrev pub ruledBy : Table → ℕ → ℕ → Task → Ruling
-ruledBy K t date x = pick (leb (K .keep t) (date - x .opened) or leb 1 (x .missed)) (Kept (closedBy t date x)) Dropped
+ruledBy K t date x = rulingOf (verdictOn K (rowAt t date x))
 
 abbrev pub rulingBy : Table → ℕ → TaskStep → ℕ → Task → Ruling
 rulingBy K t St date x = Open
