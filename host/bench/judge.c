@@ -1,5 +1,5 @@
-/* The judge of document 01 in C: the measures that the product is held against. It keeps to recorder/judge.h. The engine that does the
- * steps is the tuned one, or with -DPLAIN the plain one; all else is the same. Nothing is allocated.
+/* The judge of documents 01 and 02 in C: the measures that the product is held against. It keeps to recorder/judge.h. The engine that does
+ * the steps is the tuned one, or with -DPLAIN the plain one; all else is the same. Nothing is allocated.
  *
  *   cc -O2 -std=c11 -o tuned program.c judge.c
  *   cc -O2 -std=c11 -DPLAIN -o plain program.c judge.c */
@@ -30,15 +30,6 @@ typedef struct {
     size_t room, at;
 } report_t;
 
-static uint8_t *put_number(uint8_t *p, uint64_t n) {
-    uint8_t digits[20];
-    int k = 20;
-    do digits[--k] = (uint8_t)('0' + n % 10);
-    while (n /= 10);
-    memcpy(p, digits + k, (size_t)(20 - k));
-    return p + (20 - k);
-}
-
 static void put_row(report_t *r, const char *word, const uint64_t *numbers, int count) {
     uint8_t row[LONGEST_ROW], *p = row;
     size_t n = strlen(word);
@@ -59,6 +50,7 @@ static void put_row(report_t *r, const char *word, const uint64_t *numbers, int 
 typedef struct {
     engine_t engine;
     uint64_t accepted, opened, kept, dropped;
+    uint64_t rows;      /* lines that are `state` rows, so far */
     uint64_t last_wait; /* the number of accepted steps up to the last wait */
     uint64_t most;      /* most other steps between waits so far */
     report_t *report;
@@ -201,18 +193,46 @@ static NEVER_INLINE const uint8_t *take_lines(judging_t *j, const uint8_t *p, co
     return p;
 }
 
-/* Judges the log. Its last lines are taken from a copy with zeros behind, so that no reader needs to ask where the log ends. */
-static refusal_t read_log(judging_t *j, const uint8_t *log, size_t n) {
+/* Takes steps up to the log's end or the first line that is not accepted, and gives its place. The last lines are taken from a copy with
+ * zeros behind, so that no reader needs to ask where the log ends. */
+static const uint8_t *take_steps(judging_t *j, const uint8_t *p, const uint8_t *end, unsigned *refused) {
     uint8_t tail[2 * WINDOW] = {0};
-    unsigned refused = 0;
-    const uint8_t *p = log;
-    if (n > WINDOW) p = take_lines(j, p, log + (n - WINDOW), &refused);
-    if (!refused) {
-        size_t rest = n - (size_t)(p - log);
-        if (rest) memcpy(tail, p, rest);
-        take_lines(j, tail, tail + rest, &refused);
+    *refused = 0;
+    if (end - p > WINDOW) p = take_lines(j, p, end - WINDOW, refused);
+    if (*refused || p == end) return p;
+    size_t rest = (size_t)(end - p);
+    memcpy(tail, p, rest);
+    return p + (take_lines(j, tail, tail + rest, refused) - tail);
+}
+
+/* Takes the `state` row at `p`: sets the refusal and gives the place of the next line. */
+static const uint8_t *take_row(judging_t *j, const uint8_t *p, const uint8_t *end, unsigned *refused) {
+    const table_t *t = j->engine.table;
+    saved_t told = {.date = {0}}, now = {.date = {0}};
+    const uint8_t *next = read_row(t, p, end, &told);
+    *refused = !next ? 11 : !sound(t, &told) ? 20 : 0;
+    if (*refused) return p;
+    if (j->accepted + j->rows == 0) {
+        load(&j->engine, &told);
+        for (unsigned i = 0; i < t->count[TASK]; i++) j->opened += is_managing(&j->engine, i);
+    } else {
+        save(&j->engine, &now);
+        if (memcmp(&told, &now, sizeof told) != 0) *refused = 21;
     }
-    return (refusal_t){refused, refused ? j->accepted + 1 : 0};
+    j->rows += !*refused;
+    return next;
+}
+
+/* Judges the log: steps, and `state` rows, which no reader of steps takes. */
+static refusal_t read_log(judging_t *j, const uint8_t *log, size_t n) {
+    const uint8_t *p = log, *end = log + n;
+    unsigned refused = 0;
+    do {
+        p = take_steps(j, p, end, &refused);
+        if (refused != 11 || !begins_row(p, end)) break;
+        p = take_row(j, p, end, &refused);
+    } while (!refused);
+    return (refusal_t){refused, refused ? j->accepted + j->rows + 1 : 0};
 }
 
 static void put_sum(judging_t *j, refusal_t refused) {
@@ -260,4 +280,31 @@ size_t judge(const uint8_t *table, size_t table_length, const uint8_t *log, size
         write_report(&t, refused, log, log_length, &report);
     }
     return report.at;
+}
+
+size_t reached(const uint8_t *table, size_t table_length, const uint8_t *log, size_t log_length, uint8_t *row, size_t row_length,
+               uint64_t *refusal, size_t refusal_length) {
+    table_t t;
+    uint8_t text[LONGEST_STATE_ROW];
+    size_t length = 0;
+    report_t nowhere = {text, 0, 0};
+    judging_t j = {.report = &nowhere};
+    saved_t s = {.date = {0}};
+    refusal_t refused = read_table(&t, table, table_length);
+    if (!refused.number) {
+        start_fresh(&j.engine, &t);
+        refused = read_log(&j, log, log_length);
+    }
+    if (!refused.number) {
+        save(&j.engine, &s);
+        length = write_row(&t, &s, text);
+        if (length > row_length) refused = (refusal_t){31, 0};
+    }
+    if (refusal_length >= 2) {
+        refusal[0] = refused.number;
+        refusal[1] = refused.line;
+    }
+    if (refused.number) return 0;
+    memcpy(row, text, length);
+    return length;
 }

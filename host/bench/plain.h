@@ -2,7 +2,7 @@
 #ifndef PLAIN_H
 #define PLAIN_H
 
-#include "steps.h"
+#include "row.h"
 
 typedef struct {
     uint64_t timer, to_run, to_interrupt, cycle, open, missed, longest;
@@ -214,6 +214,15 @@ static unsigned do_fm(engine_t *e, uint64_t task, cycle_t *closed) {
     t->managing = false;
     t->open = t->missed = t->longest = 0;
     return 0;
+}
+
+static uint64_t timer_of(const engine_t *e, unsigned task) { return e->task[task].timer; }
+
+static uint64_t clock_of(const engine_t *e, unsigned a) { return e->act[a].clock; }
+
+static void load_times(engine_t *e, const saved_t *s) {
+    for (unsigned i = 0; i < e->table->count[TASK]; i++) e->task[i].timer = s->task[i][TIMER];
+    for (unsigned i = 0; i < e->table->count[ACT]; i++) e->act[i].clock = s->act[i][CLOCK];
 }
 
 #endif

@@ -6,7 +6,10 @@
  *   start_fresh(engine, table)      the fresh state of a table that is fine, in an engine that is all zeros
  *   do_wait(engine, d)              and so on for st, sm, lm, ia, ea, cx, fa
  *   do_fm(engine, task, closed)     tells the cycle that it closes
- *   is_managing(engine, task)       whether the task's manager is managing */
+ *   is_managing(engine, task)       whether the task's manager is managing
+ *   timer_of(engine, task)          the task's timer
+ *   clock_of(engine, activity)      the activity's clock
+ *   load_times(engine, saved)       takes timers, clocks and what follows from the rest of a saved state, which is in the engine already */
 #ifndef STEPS_H
 #define STEPS_H
 

@@ -3,7 +3,7 @@
 #ifndef TUNED_H
 #define TUNED_H
 
-#include "steps.h"
+#include "row.h"
 
 static const uint64_t NEVER = UINT64_MAX;
 
@@ -239,6 +239,37 @@ static inline unsigned do_fm(engine_t *e, uint64_t task, cycle_t *closed) {
     t->open = t->missed = t->longest = 0;
     if (!t->signal) e->ready &= ~(1u << task);
     return 0;
+}
+
+static uint64_t timer_of(const engine_t *e, unsigned task) { return e->date + e->table->task[task].period - e->timer_end[task]; }
+
+static uint64_t clock_of(const engine_t *e, unsigned a) { return e->act[a].executing ? e->date - e->act[a].since : 0; }
+
+/* Notes whether the task has something to do before a wait, or its holder stands or executes. */
+static void note_task(engine_t *e, unsigned task) {
+    const task_t *t = &e->task[task];
+    if (t->holder == NONE) {
+        if (t->managing || t->signal) e->ready |= 1u << task;
+        return;
+    }
+    const act_t *act = &e->act[t->holder];
+    if (act->at == ETHER || in_set(t->to_interrupt, (unsigned)t->holder)) {
+        e->ready |= 1u << task;
+    } else if (!act->executing) {
+        e->standing |= 1u << task;
+    } else {
+        e->clock_end[task] = act->since + e->codel[act->at].limit;
+        if (!e->codel[act->at].safe) put_codel(&e->busy, act->at);
+    }
+}
+
+/* A clock may have begun before date 0: `since` then wraps around, and so does each sum with it, to the right number. */
+static void load_times(engine_t *e, const saved_t *s) {
+    for (unsigned i = 0; i < e->table->count[ACT]; i++) e->act[i].since = e->date - s->act[i][CLOCK];
+    for (unsigned i = 0; i < e->table->count[TASK]; i++) {
+        e->timer_end[i] = e->date + e->table->task[i].period - s->task[i][TIMER];
+        note_task(e, i);
+    }
 }
 
 #endif

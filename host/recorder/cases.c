@@ -1,10 +1,11 @@
-/* Calls `judge` on case after case, for tests of whatever judge it is linked with.
+/* Calls the functions of judge.h on case after case, for tests of whatever judge it is linked with.
  *
- * From standard input: three numbers of four bytes, low end first (the lengths of table, log and report buffer), then table and log. To
- * standard output: the answer, four bytes; a byte that is 1 where the guard bytes before and behind the buffer are as they were, else 0;
- * the whole buffer. Buffer and guard bytes are filled with FILL before the call.
+ * From standard input: five numbers of four bytes, low end first (which function: 0 for `judge`, 1 for `reached`; the lengths of table,
+ * log and buffer; how many numbers the refusal has, 0 for `judge`, which gives none), then table and log. To standard output: the answer,
+ * four bytes; a byte that is 1 where the guard bytes before and behind buffer and refusal are as they were, else 0; the whole buffer; the
+ * whole refusal, each number of eight bytes, low end first. Buffer, refusal and guard bytes are filled with FILL before the call.
  *
- * Each part ends where a page ends that nobody may touch, the buffer but for its guard bytes; table and log can only be read. */
+ * Each part ends where a page ends that nobody may touch, buffer and refusal but for their guard bytes; table and log can only be read. */
 #define _DEFAULT_SOURCE
 #include "judge.h"
 #include <stdbool.h>
@@ -57,31 +58,65 @@ static memory_t read_part(size_t n) {
     return memory;
 }
 
+/* Memory to be written to, with guard bytes before and behind. */
+typedef struct {
+    memory_t memory;
+    uint8_t *bytes;
+    size_t n;
+} lent_t;
+
+static lent_t lend_guarded(size_t n) {
+    lent_t lent = {lend(n + 2 * GUARD), NULL, n};
+    uint8_t *before = last_bytes(lent.memory, n + 2 * GUARD);
+    memset(before, FILL, n + 2 * GUARD);
+    lent.bytes = before + GUARD;
+    return lent;
+}
+
 static bool untouched(const uint8_t *guard) {
     for (int i = 0; i < GUARD; i++)
         if (guard[i] != FILL) return false;
     return true;
 }
 
-static void write_answer(size_t answer, bool guarded) {
-    uint8_t b[5] = {(uint8_t)answer, (uint8_t)(answer >> 8), (uint8_t)(answer >> 16), (uint8_t)(answer >> 24), guarded};
+static bool guarded(lent_t lent) { return untouched(lent.bytes - GUARD) && untouched(lent.bytes + lent.n); }
+
+static void write_answer(size_t answer, bool guards) {
+    uint8_t b[5] = {(uint8_t)answer, (uint8_t)(answer >> 8), (uint8_t)(answer >> 16), (uint8_t)(answer >> 24), guards};
     fwrite(b, 1, 5, stdout);
 }
 
-static void answer_case(size_t table_length, size_t log_length, size_t room) {
-    memory_t table = read_part(table_length), log = read_part(log_length), around = lend(room + 2 * GUARD);
-    uint8_t *before = last_bytes(around, room + 2 * GUARD), *report = before + GUARD, *behind = report + room;
-    memset(before, FILL, room + 2 * GUARD);
-    size_t answer = judge(last_bytes(table, table_length), table_length, last_bytes(log, log_length), log_length, report, room);
-    write_answer(answer, untouched(before) && untouched(behind));
-    fwrite(report, 1, room, stdout);
+/* A case as it is asked: its numbers, in their order. */
+typedef struct {
+    size_t function, table, log, room, numbers;
+} case_t;
+
+static bool read_case(case_t *asked) {
+    return read_length(&asked->function) && read_length(&asked->table) && read_length(&asked->log) && read_length(&asked->room) &&
+           read_length(&asked->numbers);
+}
+
+static size_t call(case_t asked, const uint8_t *table, const uint8_t *log, uint8_t *out, uint64_t *refusal) {
+    if (asked.function == 0) return judge(table, asked.table, log, asked.log, out, asked.room);
+    return reached(table, asked.table, log, asked.log, out, asked.room, refusal, asked.numbers);
+}
+
+static void answer_case(case_t asked) {
+    memory_t table = read_part(asked.table), log = read_part(asked.log);
+    lent_t out = lend_guarded(asked.room), refusal = lend_guarded(asked.numbers * sizeof(uint64_t));
+    size_t answer =
+        call(asked, last_bytes(table, asked.table), last_bytes(log, asked.log), out.bytes, (uint64_t *)(void *)refusal.bytes);
+    write_answer(answer, guarded(out) && guarded(refusal));
+    fwrite(out.bytes, 1, out.n, stdout);
+    fwrite(refusal.bytes, 1, refusal.n, stdout);
     take_back(table);
     take_back(log);
-    take_back(around);
+    take_back(out.memory);
+    take_back(refusal.memory);
 }
 
 int main(void) {
-    size_t table, log, room;
-    while (read_length(&table) && read_length(&log) && read_length(&room)) answer_case(table, log, room);
+    case_t asked;
+    while (read_case(&asked)) answer_case(asked);
     return 0;
 }

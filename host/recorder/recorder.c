@@ -4,6 +4,9 @@
  * A log is judged from the component's start on. So the ring marks the first line of each run, and what is judged is every run that is
  * still there from its first line; the rest of a run that the ring has half forgotten is passed over.
  *
+ * A long drive is cut into two files at noon. The second one begins with the row of the state that the first one reaches, so it is judged
+ * by itself, and a cycle that is open at noon is reported when it closes.
+ *
  *   sh host/recorder/build recorder host/recorder/recorder.c && sh host/run ./recorder */
 #include "judge.h"
 #include <stdarg.h>
@@ -64,6 +67,9 @@ static size_t next_run(const ring_t *ring, size_t n) {
 
 /* ---- judging ---- */
 
+/* Room for a log of every line there is, and a `state` row before them. */
+enum { LOG_ROOM = REACHED_ROOM + LINES * LONGEST_LINE };
+
 /* Copies the lines from one number up to another into one log, and gives its length. */
 static size_t copy_log(const ring_t *ring, size_t from, size_t to, uint8_t *log) {
     size_t length = 0;
@@ -75,21 +81,46 @@ static size_t copy_log(const ring_t *ring, size_t from, size_t to, uint8_t *log)
     return length;
 }
 
-static void print_report(const ring_t *ring, size_t from, size_t to) {
-    uint8_t log[LINES * LONGEST_LINE], report[JUDGE_ROOM(sizeof log)];
-    size_t log_length = copy_log(ring, from, to, log);
+/* Judges a log, and prints its report under a title. */
+static void print_report(const char *title, const uint8_t *log, size_t log_length) {
+    static uint8_t report[JUDGE_ROOM(LOG_ROOM)];
     size_t length = judge((const uint8_t *)TABLE, sizeof TABLE - 1, log, log_length, report, sizeof report);
-    printf("lines %zu to %zu:\n", from + 1, to);
+    printf("%s:\n", title);
     fwrite(report, 1, length, stdout);
+}
+
+static void print_run(const ring_t *ring, size_t from, size_t to) {
+    uint8_t log[LOG_ROOM];
+    char title[64];
+    snprintf(title, sizeof title, "lines %zu to %zu", from + 1, to);
+    print_report(title, log, copy_log(ring, from, to, log));
 }
 
 /* Judges every run that is in the ring from its first line, and prints the reports. */
 static void print_reports(const ring_t *ring) {
     for (size_t from = next_run(ring, oldest(ring)); from < ring->written;) {
         size_t to = next_run(ring, from + 1);
-        print_report(ring, from, to);
+        print_run(ring, from, to);
         from = to;
     }
+}
+
+/* Begins a file with the row of the state that a log reaches, and gives its length; a log that is refused reaches none. */
+static size_t begin_file(const uint8_t *log, size_t log_length, uint8_t *file) {
+    uint64_t refusal[2];
+    size_t length = reached((const uint8_t *)TABLE, sizeof TABLE - 1, log, log_length, file, REACHED_ROOM, refusal, 2);
+    if (length == 0) printf("no row: refusal %llu at line %llu\n", (unsigned long long)refusal[0], (unsigned long long)refusal[1]);
+    return length;
+}
+
+/* Judges a drive, all of it in the ring, in two files: up to the line with this number, and from there on. */
+static void print_cut(const ring_t *ring, size_t noon) {
+    uint8_t morning[LOG_ROOM], afternoon[LOG_ROOM];
+    size_t first = copy_log(ring, 0, noon, morning);
+    size_t row = begin_file(morning, first, afternoon);
+    size_t second = row + copy_log(ring, noon, ring->written, afternoon + row);
+    print_report("up to noon", morning, first);
+    print_report("from noon on", afternoon, second);
 }
 
 /* ---- the component ---- */
@@ -113,7 +144,8 @@ static void run_component(ring_t *ring, const unsigned *ticks, size_t cycles) {
     for (size_t i = 0; i < cycles; i++) run_cycle(ring, ticks[i]);
 }
 
-int main(void) {
+/* The runs of a day at the bench; the ring has forgotten the start of the first one. */
+static void show_runs(void) {
     static ring_t ring;
     const unsigned quick[] = {1, 4, 2, 3}, slow[] = {2, 5, 9}, last[] = {4, 7};
     run_component(&ring, quick, 4);
@@ -121,5 +153,19 @@ int main(void) {
     run_component(&ring, last, 2);
     record(&ring, "wait\t%u\n", PERIOD); /* its timer is due, and it gives no signal: against the rules */
     print_reports(&ring);
+}
+
+/* A drive of three cycles. Noon comes in the second, while its codel executes: before it are a line, 8 of the first cycle and 5 of the
+ * second. */
+static void show_drive(void) {
+    static ring_t drive;
+    const unsigned ticks[] = {6, 7, 3};
+    run_component(&drive, ticks, 3);
+    print_cut(&drive, 1 + 8 + 5);
+}
+
+int main(void) {
+    show_runs();
+    show_drive();
     return EXIT_SUCCESS;
 }

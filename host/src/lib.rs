@@ -1,18 +1,20 @@
 //! What the host tests share: running programs, and a seeded source of numbers.
 
+use std::fs::read_to_string;
 use std::io::{ErrorKind, Write};
 use std::path::{Path, PathBuf};
-use std::process::{Child, Command, Stdio};
+use std::process::{Child, ChildStdin, Command, Output, Stdio};
 
 pub mod driver;
 pub mod model;
+pub mod row;
 pub mod table;
 pub mod text;
 pub mod told;
 pub mod walk;
 
 /// The examples by name: NAME.txt is an input of the program, NAME.report its report.
-pub const EXAMPLES: [&str; 4] = ["k", "m", "late", "sprayer"];
+pub const EXAMPLES: [&str; 6] = ["k", "m", "late", "noon-first", "noon-second", "sprayer"];
 
 /// The repository's folder.
 pub fn repository() -> PathBuf {
@@ -40,6 +42,7 @@ pub fn start(program: &Path) -> Child {
         .arg(program)
         .stdin(Stdio::piped())
         .stdout(Stdio::piped())
+        .stderr(Stdio::piped())
         .spawn()
         .expect("sh starts")
 }
@@ -52,13 +55,20 @@ pub fn write_to(pipe: &mut impl Write, bytes: &[u8]) {
     }
 }
 
-/// What a started program writes, given the writer of its standard input.
-pub fn output_of(mut child: Child, write: impl FnOnce(std::process::ChildStdin) + Send + 'static) -> Vec<u8> {
+/// All that a started program leaves, given the writer of its standard input.
+pub fn outputs_of(mut child: Child, write: impl FnOnce(ChildStdin) + Send + 'static) -> Output {
     let pipe = child.stdin.take().expect("a pipe to its standard input");
     let writer = std::thread::spawn(move || write(pipe));
     let output = child.wait_with_output().expect("the program ends");
     writer.join().expect("all was written");
-    assert!(output.status.success(), "the program ended with {}", output.status);
+    output
+}
+
+/// What a started program writes to standard output; it must succeed, and write nothing to standard error.
+pub fn output_of(child: Child, write: impl FnOnce(ChildStdin) + Send + 'static) -> Vec<u8> {
+    let output = outputs_of(child, write);
+    let errors = String::from_utf8_lossy(&output.stderr).into_owned();
+    assert!(output.status.success() && errors.is_empty(), "the program ended with {} and wrote {}", output.status, errors);
     output.stdout
 }
 
@@ -66,6 +76,23 @@ pub fn output_of(mut child: Child, write: impl FnOnce(std::process::ChildStdin) 
 pub fn run(program: &Path, stdin: &[u8]) -> Vec<u8> {
     let bytes = stdin.to_vec();
     output_of(start(program), move |mut pipe| write_to(&mut pipe, &bytes))
+}
+
+/// Whether a program waits for its input: the shell that starts it has made way, and it sleeps. One that has ended waits no more.
+fn waits(process: u32) -> bool {
+    let about = read_to_string(format!("/proc/{}/stat", process)).unwrap_or_default();
+    let state = about.rsplit(") ").next().and_then(|rest| rest.chars().next());
+    !about.contains("(sh)") && state.map_or(true, |state| state == 'S' || state == 'Z')
+}
+
+/// Writes so many bytes at a time, each when the program has taken those before.
+pub fn write_in_chunks(process: u32, mut pipe: ChildStdin, bytes: &[u8], chunk: usize) {
+    for part in bytes.chunks(chunk) {
+        while !waits(process) {
+            std::thread::yield_now();
+        }
+        write_to(&mut pipe, part);
+    }
 }
 
 /// Runs the program NAME of target/bin on the bytes of its standard input, and returns what it writes.

@@ -1,5 +1,6 @@
-//! The judge, written from document 01 and not from the Rattle code: plain and slow. Quoted words are the page's.
+//! The judge, written from documents 01 and 02 and not from the Rattle code: plain and slow. Quoted words are the pages'.
 
+use crate::row::{is_row, read_sound_row, row_of};
 use crate::table::{Table, ETHER, LONGEST};
 use crate::text::{number, set, word};
 
@@ -75,10 +76,12 @@ pub struct Cycle {
     pub longest: u64,
 }
 
-/// All that judging a log leaves behind; `refusal` and `line` are 0 where nothing was refused.
+/// All that judging a log leaves behind; `refusal` and `line` are 0 where nothing was refused. `open_at_start` is how many tasks were
+/// managing in the state that the log begins from.
 #[derive(Clone, Debug, PartialEq)]
 pub struct Judging {
     pub state: State,
+    pub open_at_start: usize,
     pub accepted: Vec<Step>,
     pub kept: Vec<Cycle>,
     pub dropped: Vec<Cycle>,
@@ -534,30 +537,44 @@ impl Judging {
     /// Judges a log up to its end or its first refusal.
     pub fn of(table: &Table, log: &[u8]) -> Judging {
         let state = State::fresh(table);
-        let mut judging = Judging { state, accepted: vec![], kept: vec![], dropped: vec![], refusal: 0, line: 0 };
+        let mut judging = Judging { state, open_at_start: 0, accepted: vec![], kept: vec![], dropped: vec![], refusal: 0, line: 0 };
         for (i, line) in log.split_inclusive(|b| *b == b'\n').enumerate() {
-            judging.refusal = judging.take(table, line);
-            if judging.refusal != 0 {
-                judging.line = i + 1;
+            if let Err(number) = judging.take(table, i == 0, line) {
+                (judging.refusal, judging.line) = (number, i + 1);
                 break;
             }
         }
         judging
     }
 
-    /// Takes a line, or gives the number of its refusal. That the state is sound needs no asking: no accepted step leaves it unsound.
-    fn take(&mut self, table: &Table, line: &[u8]) -> u64 {
-        let step = match Step::read(line) {
-            Some(step) => step,
-            None => return 11,
-        };
-        let number = refusal(table, &self.state, &step);
-        if number == 0 {
-            self.give_verdict(table, &step);
-            apply(table, &mut self.state, &step);
-            self.accepted.push(step);
+    /// Takes a line, the log's first or a later one, or gives the number of its refusal.
+    fn take(&mut self, table: &Table, first: bool, line: &[u8]) -> Result<(), u64> {
+        if is_row(line) { self.take_row(table, first, line) } else { self.take_step(table, line) }
+    }
+
+    /// "A file may now start with a `state` row"; one "later in a log must equal the state reached", 21 "for one that differs".
+    fn take_row(&mut self, table: &Table, first: bool, line: &[u8]) -> Result<(), u64> {
+        let told = read_sound_row(table, line)?;
+        if first {
+            self.open_at_start = told.managing();
+            self.state = told;
+            return Ok(());
         }
-        number
+        if told == self.state { Ok(()) } else { Err(21) }
+    }
+
+    /// That the state is sound needs no asking: no accepted step leaves it unsound.
+    fn take_step(&mut self, table: &Table, line: &[u8]) -> Result<(), u64> {
+        let step = Step::read(line).ok_or(11u64)?;
+        match refusal(table, &self.state, &step) {
+            0 => {
+                self.give_verdict(table, &step);
+                apply(table, &mut self.state, &step);
+                self.accepted.push(step);
+                Ok(())
+            }
+            number => Err(number),
+        }
     }
 
     fn give_verdict(&mut self, table: &Table, step: &Step) {
@@ -571,9 +588,9 @@ impl Judging {
         }
     }
 
-    /// "Opened (accepted `sm`)".
+    /// "Opened (accepted `sm`)"; "managing tasks at the start count as opened".
     pub fn opened(&self) -> usize {
-        self.accepted.iter().filter(|s| matches!(s, Step::Sm(..))).count()
+        self.open_at_start + self.accepted.iter().filter(|s| matches!(s, Step::Sm(..))).count()
     }
 
     /// "Most steps other than waits between two neighbouring waits or at either end of the log".
@@ -581,7 +598,8 @@ impl Judging {
         self.accepted.split(Step::is_wait).map(|stretch| stretch.len()).max().unwrap_or(0)
     }
 
-    fn sum(&self) -> [u64; 9] {
+    /// The numbers of the `sum` row.
+    pub fn sum(&self) -> [u64; 9] {
         [
             self.accepted.len() as u64,
             self.state.date,
@@ -613,19 +631,45 @@ pub fn judge(table: &[u8], log: &[u8]) -> Vec<u8> {
     }
 }
 
-/// What the function on three slices does with a report: its length, or 0 "with the buffer unchanged exactly when the report does not fit".
-/// "Bytes past the report are unchanged."
-pub fn put_report(report: &[u8], buffer: &mut [u8]) -> usize {
-    if report.len() > buffer.len() {
+/// The row of the state after a log's last line, or the number and line of the refusal of the table or of the log.
+pub fn reached(table: &[u8], log: &[u8]) -> Result<Vec<u8>, (u64, u64)> {
+    let table = Table::read(table).map_err(|(number, line)| (number, line as u64))?;
+    let judging = Judging::of(&table, log);
+    match judging.refusal {
+        0 => Ok(row_of(&judging.state)),
+        number => Err((number, judging.line as u64)),
+    }
+}
+
+/// What the exported function `reached` does: the length of the row in the buffer, or 0 with the buffer unchanged; the pair tells the
+/// refusal, 31 and 0 where the row does not fit, 0 and 0 where there is none, and is left alone where it is shorter than two numbers.
+pub fn reached_into(table: &[u8], log: &[u8], buffer: &mut [u8], pair: &mut [u64]) -> usize {
+    let (length, refused) = match reached(table, log) {
+        Ok(row) => match put_answer(&row, buffer) {
+            0 => (0, (31, 0)),
+            length => (length, (0, 0)),
+        },
+        Err(refused) => (0, refused),
+    };
+    if pair.len() >= 2 {
+        (pair[0], pair[1]) = refused;
+    }
+    length
+}
+
+/// What an exported function does with a report or a row: its length, or 0 "with the buffer unchanged exactly when" it "does not fit".
+/// Bytes past it "are unchanged".
+pub fn put_answer(answer: &[u8], buffer: &mut [u8]) -> usize {
+    if answer.len() > buffer.len() {
         return 0;
     }
-    buffer[..report.len()].copy_from_slice(report);
-    report.len()
+    buffer[..answer.len()].copy_from_slice(answer);
+    answer.len()
 }
 
 /// What the function on three slices does.
 pub fn judge_into(table: &[u8], log: &[u8], buffer: &mut [u8]) -> usize {
-    put_report(&judge(table, log), buffer)
+    put_answer(&judge(table, log), buffer)
 }
 
 /// The last two numbers of a report: the refusal and its line.

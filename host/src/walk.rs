@@ -1,6 +1,7 @@
 //! Seeded tables to walk in, accepted walks, and damage to tables and logs.
 
 use crate::model::{apply, executes, holds, members, refusal, start_of, Holder, State, Step, CEILING, MOST_TICKS};
+use crate::row::{is_row, read_sound_row, row_of};
 use crate::table::{Codel, Edge, Table, ETHER};
 use crate::Source;
 
@@ -152,13 +153,17 @@ pub fn accepted_step(s: &mut Source, table: &Table, state: &State, waits_of_8: u
 
 /// An accepted walk from fresh of at most so many steps.
 pub fn walk(s: &mut Source, table: &Table, most: usize) -> Vec<Step> {
-    let mut state = State::fresh(table);
+    walk_on(s, table, &mut State::fresh(table), most)
+}
+
+/// An accepted walk from a state of at most so many steps, done.
+pub fn walk_on(s: &mut Source, table: &Table, state: &mut State, most: usize) -> Vec<Step> {
     let mut steps = Vec::new();
     let waits_of_8 = *s.one_of(&[0, 3, 5, 8]);
     while steps.len() < most {
-        match accepted_step(s, table, &state, waits_of_8) {
+        match accepted_step(s, table, state, waits_of_8) {
             Some(step) => {
-                apply(table, &mut state, &step);
+                apply(table, state, &step);
                 steps.push(step);
             }
             None => break,
@@ -293,6 +298,115 @@ fn damage_field_of(s: &mut Source, line: &mut Vec<u8>) {
         _ => fields[at] = damaged_field(s, &fields[at]),
     }
     *line = fields.join(&b'\t');
+}
+
+/// A field of a `state` row with another value, mostly of its form; the value need not make sense.
+fn other_field(s: &mut Source, table: &Table, field: &str) -> String {
+    let far = *s.one_of(&[CEILING, CEILING + 1, 9_999_999_999_999, 10_000_000_000_000]);
+    match (field, field.parse::<u64>()) {
+        ("manager", _) => wild_number(s, table.acts.len()).to_string(),
+        ("ether", _) => wild_number(s, table.codels.len()).to_string(),
+        (set, _) if set.len() == 16 => {
+            let task = s.below(table.tasks.len() as u64);
+            let within = *s.one_of(&[members(table, task), members(table, task), u64::MAX]);
+            format!("{:016x}", some_set(s, within))
+        }
+        ("0", _) if s.below(2) == 0 => "1".to_string(),
+        ("1", _) if s.below(2) == 0 => "0".to_string(),
+        (_, Ok(_)) if s.below(6) == 0 => s.one_of(&["manager", "ether"]).to_string(),
+        (_, Ok(n)) if s.below(6) > 0 => near(s, n).to_string(),
+        _ => far.to_string(),
+    }
+}
+
+/// A `state` row with one to three of its fields changed.
+fn changed_row(s: &mut Source, table: &Table, row: &[u8]) -> Vec<u8> {
+    let text = String::from_utf8_lossy(row).into_owned();
+    let mut fields: Vec<String> = text.trim_end().split('\t').map(str::to_string).collect();
+    for _ in 0..1 + s.below(3) {
+        let at = 1 + s.below(fields.len() as u64 - 1) as usize;
+        fields[at] = other_field(s, table, &fields[at]);
+    }
+    (fields.join("\t") + "\n").into_bytes()
+}
+
+/// A sound state about this one that no steps from fresh need lead to: changed rows are tried, and those that are sound are taken.
+pub fn sound_about(s: &mut Source, table: &Table, state: &State) -> State {
+    let mut sound = state.clone();
+    for _ in 0..s.below(40) {
+        let row = changed_row(s, table, &row_of(&sound));
+        sound = read_sound_row(table, &row).unwrap_or(sound);
+    }
+    sound
+}
+
+/// A state that a walk leads to or, half of the time, a sound one about it.
+pub fn some_sound_state(s: &mut Source, table: &Table, most: usize) -> State {
+    let mut state = State::fresh(table);
+    walk_on(s, table, &mut state, most);
+    if s.below(2) == 0 { sound_about(s, table, &state) } else { state }
+}
+
+/// The lines of an accepted log from fresh or, half of the time, from a row, with rows of the state reached in between.
+pub fn lines_with_rows(s: &mut Source, table: &Table, most: usize) -> Vec<Vec<u8>> {
+    let mut lines = Vec::new();
+    let mut state = State::fresh(table);
+    if s.below(2) == 0 {
+        state = some_sound_state(s, table, most);
+        lines.push(row_of(&state));
+    }
+    while lines.len() < most {
+        if s.below(6) == 0 {
+            lines.push(row_of(&state));
+        }
+        let steps = walk_on(s, table, &mut state, 1);
+        lines.extend(steps.iter().map(|step| step.line().into_bytes()));
+        if steps.is_empty() {
+            break;
+        }
+    }
+    lines
+}
+
+/// A log with rows: accepted, with a row changed, with one put elsewhere, or damaged.
+fn with_rows(s: &mut Source, table: &Table, most: usize) -> Vec<u8> {
+    let mut lines = lines_with_rows(s, table, most);
+    let rows: Vec<usize> = (0..lines.len()).filter(|i| is_row(&lines[*i])).collect();
+    if !rows.is_empty() {
+        let at = *s.one_of(&rows);
+        let row = lines[at].clone();
+        match s.below(8) {
+            0..=2 => {}
+            3..=5 => lines[at] = changed_row(s, table, &row),
+            _ => lines.insert(s.below(lines.len() as u64 + 1) as usize, row),
+        }
+    }
+    let log = lines.concat();
+    if s.below(6) == 0 { damaged(s, &log) } else { log }
+}
+
+/// A table and a log with rows.
+pub fn row_case(s: &mut Source) -> Case {
+    let table = any_table(s);
+    let most = 1 + s.below(40) as usize;
+    Case { table: table.text().into_bytes(), log: with_rows(s, &table, most) }
+}
+
+/// A walk cut behind every line, and before the first: each first file, and each second one, which begins with the row of the state
+/// reached. Behind the walk comes a step of any kind.
+pub fn cut_everywhere(s: &mut Source, most: usize) -> Vec<Case> {
+    let table = any_table(s);
+    let text = table.text().into_bytes();
+    let steps = walk(s, &table, most);
+    let last = wild_step(s, &table).line().into_bytes();
+    let mut state = State::fresh(&table);
+    let mut cases = Vec::new();
+    for cut in 0..=steps.len() {
+        cases.push(Case { table: text.clone(), log: text_of(&steps[..cut]) });
+        cases.push(Case { table: text.clone(), log: [row_of(&state), text_of(&steps[cut..]), last.clone()].concat() });
+        steps.get(cut).into_iter().for_each(|step| apply(&table, &mut state, step));
+    }
+    cases
 }
 
 /// Makes a line of 62, 63, 64 or 65 bytes, its newline counted.
@@ -457,7 +571,7 @@ pub fn ceiling_case(s: &mut Source) -> Case {
     Case { table: table.text().into_bytes(), log }
 }
 
-/// A table and a log: accepted, refused at a chosen step, or damaged.
+/// A table and a log: accepted, refused at a chosen step, with `state` rows, or damaged.
 pub fn any_case(s: &mut Source) -> Case {
     let table = any_table(s);
     let longest = *s.one_of(&[5, 50, 50, 50, 50, 200]);
@@ -465,7 +579,7 @@ pub fn any_case(s: &mut Source) -> Case {
     let steps = walk(s, &table, most);
     let text = table.text().into_bytes();
     let log = text_of(&steps);
-    match s.below(22) {
+    match s.below(28) {
         0..=4 => Case { table: text, log },
         5..=8 => Case { table: text, log: with_refused_step(s, &table, 100) },
         9..=10 => Case { table: text, log: with_longer_wait(s, &steps) },
@@ -473,6 +587,7 @@ pub fn any_case(s: &mut Source) -> Case {
         14..=16 => Case { table: text, log: damaged(s, &log) },
         17..=19 => Case { table: damaged_table(s, &table), log },
         20 => Case { table: damaged_table(s, &table), log: damaged(s, &log) },
+        21..=26 => Case { table: text, log: with_rows(s, &table, most) },
         _ if s.below(8) == 0 => Case { table: overgrown_table(s, &table), log },
         _ => Case { table: [text, b"end\t0\n".repeat(s.below(2) as usize)].concat(), log: damaged(s, &log) },
     }

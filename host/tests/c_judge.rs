@@ -1,7 +1,7 @@
 //! The C judges of the benchmarks against the model, on random tables and logs, intact and damaged, and on buffers of every fit.
 //! CASES in the environment says how many cases, CFLAGS how the C is compiled.
 
-use host::driver::{case_count, compile, long_case, pausing_case, Driver, Hits};
+use host::driver::{case_count, compile, long_case, pausing_case, wide_cases, with_rows_between, Driver, Hits, UNFIT};
 use host::model::{cut_input, judge};
 use host::walk::{any_case, refused_everywhere, Case, SIZES};
 use host::{run, Source};
@@ -41,6 +41,37 @@ fn the_c_judges_report_as_the_model_does() {
 }
 
 #[test]
+fn the_c_judges_give_the_row_that_the_model_gives() {
+    let count = case_count(5_000);
+    for driver in drivers("reached") {
+        let mut hits = Hits::default();
+        driver.compare_random_reached(&mut Source(35), count, &mut hits);
+        assert!([0, 11, 20, 21, UNFIT].iter().all(|number| hits[*number] >= count / 100), "{:?}", hits);
+    }
+}
+
+#[test]
+fn the_c_judges_take_rows_anywhere_as_the_model_does() {
+    let mut s = Source(37);
+    let (wide, count) = (wide_cases(&mut s), case_count(5_000) / 2);
+    for driver in drivers("rows") {
+        let mut hits = Hits::default();
+        driver.compare_rows(&mut s, count, &mut hits);
+        assert!([0, 11, 20, 21].iter().all(|number| hits[*number] >= count / 50), "{:?}", hits);
+        driver.compare_in_any_room(&mut s, &wide, &mut hits);
+    }
+}
+
+#[test]
+fn the_c_judges_judge_logs_cut_behind_any_line_as_the_model_does() {
+    for driver in drivers("cut") {
+        let mut hits = Hits::default();
+        driver.compare_cut(&mut Source(36), 20, &mut hits);
+        assert!(hits[0] >= 500, "{:?}", hits);
+    }
+}
+
+#[test]
 fn the_c_judges_refuse_as_the_model_does_all_along_a_walk() {
     let mut s = Source(34);
     for driver in drivers("refused") {
@@ -65,8 +96,9 @@ fn the_c_judges_report_long_logs_as_the_model_does() {
     for ((_, size), lines) in SIZES.iter().zip([50_000, 5_000, 1_000]) {
         for keep in [1, 400, 1_000_000_000] {
             let case = long_case(&mut s, *size, keep, lines);
+            let cases = [case.clone(), with_rows_between(&case, 97), case];
             for driver in &drivers {
-                driver.compare_in_any_room(&mut s, &[case.clone(), case.clone()], &mut Hits::default());
+                driver.compare_in_any_room(&mut s, &cases, &mut Hits::default());
             }
         }
     }

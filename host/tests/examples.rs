@@ -1,6 +1,6 @@
 //! The examples: what they show, by the model, and that the sprayer's log is what its program writes.
 
-use host::model::{cut_input, judge, Cycle, Judging, Step};
+use host::model::{cut_input, judge, reached, Cycle, Judging, Step};
 use host::table::Table;
 use host::told::{K_LOG, K_REPORT, K_TABLE};
 use host::{repository, EXAMPLES};
@@ -56,6 +56,25 @@ fn the_late_cycles_are_kept() {
     // of the kept cycles one took its keep; of the others each ended behind a signal
     assert_eq!(judging.kept.iter().map(told).collect::<Vec<_>>(), [(2, 120_000, 1), (4, 160_000, 1), (5, 70_000, 1)]);
     assert_eq!(judging.dropped.iter().map(told).collect::<Vec<_>>(), [(1, 80_000, 0), (3, 70_000, 0), (6, 60_000, 0)]);
+}
+
+#[test]
+fn the_drive_is_cut_at_noon_with_both_cycles_open() {
+    let (morning, afternoon) = (example("noon-first.txt"), example("noon-second.txt"));
+    let ((table, first), (same, second)) = (cut_input(&morning), cut_input(&afternoon));
+    assert_eq!(table, same);
+    let row = reached(table, first).expect("the morning is accepted");
+    let rest = second.strip_prefix(&row[..]).expect("the afternoon begins with the row that the morning reaches");
+    let sum = |name: &str| judging(name).1.sum();
+    assert_eq!(sum("noon-first.txt"), [20, 360_000, 3, 1, 0, 2, 8, 0, 0]);
+    assert_eq!(sum("noon-second.txt"), [22, 450_000, 5, 2, 3, 0, 10, 0, 0]);
+    // not cut: the steps, kept and dropped cycles of both files, and each cycle that was open at noon counts once
+    let table = Table::read(table).expect("a table that is fine");
+    let whole = Judging::of(&table, &[first, rest].concat());
+    assert_eq!(whole.sum(), [42, 450_000, 6, 3, 3, 0, 10, 0, 0]);
+    let kept: Vec<(u64, u64, u64, u64)> = whole.kept.iter().map(|cycle| (cycle.task, cycle.number, cycle.open, cycle.close)).collect();
+    assert_eq!(kept, [(0, 1, 100_000, 130_000), (1, 1, 200_000, 370_000), (0, 2, 200_000, 390_000)]);
+    assert_eq!([judging("noon-first.txt").1.kept, judging("noon-second.txt").1.kept].concat(), whole.kept);
 }
 
 #[test]

@@ -1,15 +1,18 @@
 //! The product against the model: the exported function through the driver recorder/cases.c, and the program target/bin/judge.
 //! CASES in the environment says how many random cases the function is given.
 
-use host::driver::{build_with_product, case_count, long_case, pausing_case, room_for_any, Driver, Hits, UNFIT};
+use host::driver::{
+    build_with_product, case_count, large_log, long_case, pausing_case, room_for_any, rowed_case, wide_cases, with_rows_between, Driver,
+    Hits, UNFIT,
+};
 use host::model::{cut_input, judge};
 use host::table::LONGEST;
 use host::told::{cases_of_k, told_cases, K_LOG, K_REPORT, K_TABLE as K};
-use host::walk::{any_case, ceiling_case, refused_everywhere, Case, SIZES};
-use host::{output_of, product, repository, run, run_program, start, write_to, Source, EXAMPLES};
+use host::walk::{any_case, ceiling_case, cut_everywhere, refused_everywhere, row_case, Case, SIZES};
+use host::{output_of, product, repository, run, run_program, start, write_in_chunks, write_to, Source, EXAMPLES};
 use std::fs::{read, read_to_string, remove_file};
 use std::path::{Path, PathBuf};
-use std::process::{ChildStdin, Command, Stdio};
+use std::process::{Command, Stdio};
 
 /// The most memory that the program may take, in kibibytes.
 const MOST_MEMORY: u64 = 8 * 1024;
@@ -54,8 +57,8 @@ fn compare_program(function: &Driver, inputs: &[Vec<u8>], hits: &mut Hits) {
 
 /// Each report was given: without a refusal, and with every number of a table and of a log.
 fn assert_every_answer(hits: &Hits, least: usize) {
-    println!("none {}, by number {:?} and {:?}, not fitting {}", hits[0], &hits[1..8], &hits[11..19], hits[UNFIT]);
-    for number in (0..=7).chain(11..=18) {
+    println!("none {}, by number {:?} and {:?}, not fitting {}", hits[0], &hits[1..8], &hits[11..22], hits[UNFIT]);
+    for number in (0..=7).chain(11..=18).chain([20, 21]) {
         assert!(hits[number] >= least, "{} is given {} times", number, hits[number]);
     }
 }
@@ -178,13 +181,47 @@ fn the_function_reads_every_byte_at_every_place_as_the_model_does() {
 }
 
 #[test]
+fn the_function_takes_rows_anywhere_as_the_model_does() {
+    let mut hits = Hits::default();
+    let count = case_count(40_000) / 4;
+    function("rows").compare_rows(&mut Source(46), count, &mut hits);
+    assert!([0, 11, 20, 21].iter().all(|number| hits[*number] >= count / 50), "{:?}", hits);
+}
+
+#[test]
+fn the_function_judges_logs_cut_behind_any_line_as_the_model_does() {
+    let mut hits = Hits::default();
+    function("cut").compare_cut(&mut Source(47), 40, &mut hits);
+    assert!(hits[0] >= 1_000, "{:?}", hits);
+}
+
+#[test]
+fn wide_rows_are_read_as_the_model_does() {
+    let cases = wide_cases(&mut Source(48));
+    let mut hits = Hits::default();
+    let driver = function("wide");
+    driver.compare(&cases.iter().map(|case| (case, room_for_any(case.log.len()))).collect::<Vec<(&Case, usize)>>(), &mut hits);
+    assert_eq!((hits[0], hits[11], hits[20]), (4, 3, 2));
+    let inputs: Vec<Vec<u8>> = cases.iter().map(|case| [&case.table[..], &case.log].concat()).collect();
+    compare_program(&driver, &inputs, &mut Hits::default());
+}
+
+#[test]
+fn the_function_reads_every_byte_of_a_row_as_the_model_does() {
+    let mut hits = Hits::default();
+    function("row_byte").compare_every_byte_of_log(&rowed_case(), &mut hits);
+    assert!([0, 11, 20, 21].iter().all(|number| hits[*number] >= 100), "{:?}", hits);
+}
+
+#[test]
 fn the_function_reports_long_logs_as_the_model_does() {
     let mut s = Source(43);
     let driver = function("long");
     for ((_, size), lines) in SIZES.iter().zip([30_000, 5_000, 1_000]) {
         for keep in [1, 400, 1_000_000_000] {
             let case = long_case(&mut s, *size, keep, lines);
-            driver.compare_in_any_room(&mut s, &[case.clone(), case.clone()], &mut Hits::default());
+            let rowed = with_rows_between(&case, 97);
+            driver.compare_in_any_room(&mut s, &[case.clone(), case, rowed], &mut Hits::default());
         }
     }
 }
@@ -196,26 +233,11 @@ fn the_program_reports_as_the_model_and_the_function_do() {
     let mut cases: Vec<Case> = (0..500).map(|_| any_case(&mut s)).collect();
     cases.extend((0..6).map(|_| ceiling_case(&mut s)));
     cases.extend((0..3).flat_map(|_| refused_everywhere(&mut s, 20)).take(150));
+    cases.extend((0..200).map(|_| row_case(&mut s)));
+    cases.extend(cut_everywhere(&mut s, 40));
     let inputs: Vec<Vec<u8>> = cases.iter().map(|case| [&case.table[..], &case.log].concat()).collect();
     compare_program(&function("program"), &inputs, &mut hits);
     assert_every_answer(&hits, 1);
-}
-
-/// Whether a program waits for its input: the shell that starts it has made way, and it sleeps. One that has ended waits no more.
-fn waits(process: u32) -> bool {
-    let about = read_to_string(format!("/proc/{}/stat", process)).unwrap_or_default();
-    let state = about.rsplit(") ").next().and_then(|rest| rest.chars().next());
-    !about.contains("(sh)") && state.map_or(true, |state| state == 'S' || state == 'Z')
-}
-
-/// Writes so many bytes at a time, each when the program has taken those before.
-fn write_in_chunks(process: u32, mut pipe: ChildStdin, bytes: &[u8], chunk: usize) {
-    for part in bytes.chunks(chunk) {
-        while !waits(process) {
-            std::thread::yield_now();
-        }
-        write_to(&mut pipe, part);
-    }
 }
 
 fn run_in_chunks(input: &[u8], chunk: usize) -> Vec<u8> {
@@ -227,18 +249,19 @@ fn run_in_chunks(input: &[u8], chunk: usize) -> Vec<u8> {
 /// Inputs, and how many bytes at a time the program is given of each.
 fn inputs_in_pieces() -> Vec<(Vec<u8>, &'static [usize])> {
     let mut s = Source(45);
-    let mut input = |size: usize, keep: u64, lines: usize| {
+    let mut cases = |size: usize, keep: u64, lines: usize, apart: usize| {
         let case = long_case(&mut s, SIZES[size].1, keep, lines);
-        [case.table, case.log].concat()
+        let rowed = with_rows_between(&case, apart);
+        [case, rowed].map(|case| [case.table, case.log].concat())
     };
-    let (full, long) = (input(2, 400, 2_000), input(0, 1_000_000_000, 25_000));
+    let ([full, full_rowed], [long, long_rowed]) = (cases(2, 400, 2_000, 40), cases(0, 1_000_000_000, 25_000, 3));
     let refused = [&long[..200_000], b"\nwait\t1\n", &long[200_000..]].concat();
     assert!(full.len() > 20_000 && long.len() > 3 * 65_537, "more than a few pieces");
     let short = [K.to_string() + K_LOG, K.to_string() + K_LOG + "wait\t0", K.to_string(), String::new()];
     let mut inputs: Vec<(Vec<u8>, &'static [usize])> = Vec::new();
     inputs.extend(short.iter().map(|input| (input.clone().into_bytes(), &[1, 2, 63, 64, 65_536][..])));
-    inputs.push((full, &[63, 64, 4_096, 65_536]));
-    inputs.extend([long, refused].map(|input| (input, &[65_535, 65_536, 65_537, usize::MAX][..])));
+    inputs.extend([full, full_rowed].map(|input| (input, &[63, 64, 4_095, 4_096, 65_536][..])));
+    inputs.extend([long, long_rowed, refused].map(|input| (input, &[65_535, 65_536, 65_537, usize::MAX][..])));
     inputs.extend(inputs_of_long_tables().into_iter().step_by(9).map(|input| (input, &[4_096, 32_767, 32_768, 32_769][..])));
     inputs
 }
@@ -252,15 +275,6 @@ fn the_program_reads_its_input_in_any_pieces() {
             assert!(wrote == report, "{} bytes, {} at a time: {}\nand not {}", input.len(), chunk, shown(&wrote), shown(&report));
         }
     }
-}
-
-/// A log of some 10 MB in K: quick cycles that are dropped, with a kept one and an interruption every hundred.
-fn large_log() -> Vec<u8> {
-    let quick = "st\t0\nsm\t0\t0000000000000001\t0000000000000000\nlm\t0\t0\nea\t0\t0\nwait\t4\nfa\t0\tether\nfm\t0\nwait\t6\n";
-    let slow = "st\t0\nsm\t0\t0000000000000001\t0000000000000000\nlm\t0\t0\nea\t0\t0\nwait\t7\nfa\t0\tether\nfm\t0\nwait\t3\n";
-    let interrupted = "st\t0\nsm\t0\t0000000000000001\t0000000000000001\nlm\t0\t0\nia\t0\nfm\t0\nwait\t10\n";
-    let hundred = quick.repeat(98) + slow + interrupted;
-    ("wait\t10\n".to_string() + &hundred.repeat(1_150)).into_bytes()
 }
 
 #[test]
@@ -326,11 +340,15 @@ fn the_program_reports_on_the_examples() {
 }
 
 #[test]
-fn the_recorder_prints_the_reports_of_the_runs_that_it_still_has() {
+fn the_recorder_prints_the_reports_of_the_runs_that_it_still_has_and_of_a_drive_that_it_cuts() {
     let program = temporary("recorder");
     build_with_product(&program, "recorder.c");
     let wrote = String::from_utf8(run(&program, b"")).expect("plain text");
     let slow = "cycles\t1\nkept\t0\t2\t20\t25\t0\t5\nkept\t0\t3\t30\t39\t0\t9\nsum\t25\t40\t3\t2\t1\t0\t4\t0\t0\n";
     let last = "cycles\t1\nkept\t0\t2\t20\t27\t0\t7\nsum\t17\t30\t2\t1\t1\t0\t4\t17\t18\n";
-    assert_eq!(wrote, format!("lines 34 to 58:\n{}lines 59 to 76:\n{}", slow, last));
+    let runs = format!("lines 34 to 58:\n{}lines 59 to 76:\n{}", slow, last);
+    // the cycle that is open at noon is opened in both files and kept in the second
+    let morning = "cycles\t1\nkept\t0\t1\t10\t16\t0\t6\nsum\t14\t27\t2\t1\t0\t1\t4\t0\t0\n";
+    let afternoon = "cycles\t1\nkept\t0\t2\t20\t27\t0\t7\nsum\t11\t40\t2\t1\t1\t0\t4\t0\t0\n";
+    assert_eq!(wrote, format!("{}up to noon:\n{}from noon on:\n{}", runs, morning, afternoon));
 }

@@ -4,11 +4,12 @@ use host::model::{
     cut_input, executes, judge, judge_into, members, refusal, refused_with, something_to_do, step, unsound, ActivityState, Holder, Judging,
     State, Step, CEILING,
 };
+use host::row::{is_row, row_of};
 use host::table::{Table, ETHER, LONGEST};
 use host::told::{cases_of_k, line_of, lines_of as text, told_cases, K, K_REPORT, K_TABLE, M, P, STANDING, STOPPED, TWO};
 use host::walk::{
-    accepted_step, any_case, any_table, candidates, ceiling_case, partners, refused_everywhere, sized_table, text_of, wanted, wild_step,
-    Case, Runner, SIZES,
+    accepted_step, any_case, any_table, candidates, ceiling_case, partners, refused_everywhere, sized_table, some_sound_state, text_of,
+    wanted, wild_step, Case, Runner, SIZES,
 };
 use host::Source;
 
@@ -402,11 +403,11 @@ fn check_state(table: &Table, partners: &[Vec<u64>], state: &State) {
     assert!(wishes.iter().all(|wish| refusal(table, state, wish) == 0), "what hinders a wait is accepted: {:?}", wishes);
 }
 
-/// Walks and checks every state, every stretch between waits, and that some step is accepted below the ceiling.
-fn check_walk(s: &mut Source, table: &Table, most: usize, waits_of_8: u64) {
+/// Walks from a state and checks every state, every stretch between waits, and that some step is accepted below the ceiling.
+fn check_walk(s: &mut Source, table: &Table, start: &State, most: usize, waits_of_8: u64) {
     let partners = partners(table);
     let bound = 6 * table.acts.len() + 6 * table.tasks.len();
-    let mut state = State::fresh(table);
+    let mut state = start.clone();
     let (mut steps, mut stretch) = (Vec::new(), 0);
     check_state(table, &partners, &state);
     while steps.len() < most {
@@ -423,20 +424,22 @@ fn check_walk(s: &mut Source, table: &Table, most: usize, waits_of_8: u64) {
         check_state(table, &partners, &state);
         steps.push(taken);
     }
-    check_judging(s, table, &steps, &state);
+    check_judging(s, table, start, &steps, &state);
 }
 
-/// The judging of a walk with any step behind it: all is accepted up to there, the cycles add up, and a refusal changes nothing.
-fn check_judging(s: &mut Source, table: &Table, steps: &[Step], state: &State) {
+/// The judging of a walk with any step behind it, and a row before it unless it starts fresh: all is accepted up to there, the cycles add
+/// up, and a refusal changes nothing.
+fn check_judging(s: &mut Source, table: &Table, start: &State, steps: &[Step], state: &State) {
     let last = wild_step(s, table);
-    let judging = Judging::of(table, &text_of(&[steps, &[last]].concat()));
+    let row = if *start == State::fresh(table) { vec![] } else { row_of(start) };
+    let judging = Judging::of(table, &[&row[..], &text_of(steps), last.line().as_bytes()].concat());
     assert_eq!(judging.opened(), judging.kept.len() + judging.dropped.len() + judging.state.managing());
     assert!(judging.kept.iter().all(|cycle| cycle.is_kept(table)) && !judging.dropped.iter().any(|cycle| cycle.is_kept(table)));
     match judging.refusal {
         0 => assert_eq!((judging.accepted.len(), judging.line), (steps.len() + 1, 0)),
         number => {
             assert_eq!(&judging.state, state, "{:?}", last);
-            assert_eq!((judging.accepted.len(), judging.line), (steps.len(), steps.len() + 1));
+            assert_eq!((judging.accepted.len(), judging.line), (steps.len(), steps.len() + 1 + usize::from(!row.is_empty())));
             assert_eq!(number, refusal(table, state, &last));
         }
     }
@@ -447,7 +450,17 @@ fn walks_stay_sound_and_never_stand_still() {
     let mut s = Source(21);
     for i in 0..1_500 {
         let table = any_table(&mut s);
-        check_walk(&mut s, &table, 60, [0, 2, 4, 8][i % 4]);
+        check_walk(&mut s, &table, &State::fresh(&table), 60, [0, 2, 4, 8][i % 4]);
+    }
+}
+
+#[test]
+fn walks_from_sound_states_do_too() {
+    let mut s = Source(29);
+    for i in 0..1_500 {
+        let table = any_table(&mut s);
+        let start = some_sound_state(&mut s, &table, 40);
+        check_walk(&mut s, &table, &start, 40, [0, 2, 4, 8][i % 4]);
     }
 }
 
@@ -456,10 +469,10 @@ fn walks_in_large_tables_do_too() {
     let mut s = Source(22);
     for waits_of_8 in [0, 4] {
         let table = Table::any(&mut s, 16, 4, 4);
-        check_walk(&mut s, &table, 60, waits_of_8);
+        check_walk(&mut s, &table, &State::fresh(&table), 60, waits_of_8);
     }
     let table = sized_table(&mut s, SIZES[2].1, 100);
-    check_walk(&mut s, &table, 60, 4);
+    check_walk(&mut s, &table, &State::fresh(&table), 60, 4);
 }
 
 #[test]
@@ -496,7 +509,7 @@ fn a_refusal_is_reported_at_its_line_all_along_a_walk() {
 #[test]
 fn each_answer_is_given_often() {
     let mut s = Source(24);
-    let mut hits = [0usize; 19];
+    let mut hits = [0usize; 22];
     let (mut kept, mut dropped, mut missed) = (0, 0, 0);
     for i in 0..20_000 {
         let case = if i % 400 == 0 { ceiling_case(&mut s) } else { any_case(&mut s) };
@@ -512,7 +525,7 @@ fn each_answer_is_given_often() {
         }
     }
     println!("by refusal {:?}; cycles kept {}, with missed signals {}, dropped {}", hits, kept, missed, dropped);
-    for number in (0..=7).chain(11..=18) {
+    for number in (0..=7).chain(11..=18).chain([20, 21]) {
         assert!(hits[number] >= 20, "{} is given {} times", number, hits[number]);
     }
     assert!(kept > 1_000 && dropped > 1_000 && missed > 100, "cycles of every verdict");
@@ -542,7 +555,8 @@ fn missed_is_how_many_signals_came_while_the_cycle_was_open() {
     let mut s = Source(28);
     let mut by_signals = [0usize; 4];
     let read = |case: Case| Table::read(&case.table).ok().map(|table| Judging::of(&table, &case.log));
-    for judging in (0..4_000).filter_map(|_| read(any_case(&mut s))) {
+    let from_fresh = (0..5_000).map(|_| any_case(&mut s)).filter(|case| !is_row(&case.log));
+    for judging in from_fresh.filter_map(read) {
         let mut cycles: Vec<(u64, u64, u64)> =
             judging.kept.iter().chain(&judging.dropped).map(|cycle| (cycle.task, cycle.number, cycle.missed)).collect();
         let mut told = signals_of_closed_cycles(&judging.accepted);

@@ -1,4 +1,5 @@
 pub mod Lines
+pub mod Pausing
 pub mod Runs
 pub mod Waiting
 pub mod Naming

@@ -1,14 +1,16 @@
--- The line at a place of a log, and what playing on from there comes to, with so much room for rows.
+-- The line at a place of a log, and what playing on from there up to a `state` row comes to, with so much room for rows.
 use Prim.Native.Nat.{ℕ, _+_, _-_, _≤_, _<_}
+use mathlib.Core.Bool.{true}
 use mathlib.Core.List.{List, [], _∷_}
-use mathlib.Core.Path.{_≡_, refl, ap, sym, subst⁻¹, _∙_}
+use mathlib.Core.Path.{_≡_, refl, ap, sym, subst, subst⁻¹, _∙_}
 use native.Mathlib.Omega.{arith}
+use lib.Dec.{T, eqb}
 use lib.ListN.{length, take, drop, length-drop, drop-of-length-le}
 use lib.Seq.{length-take-le}
 use borrow.Author.Tests.{le-ltb, eq-eqb, ne-eqb}
 use Rattle.text.specs.Parts.{firstAt, partsFrom}
 use Rattle.text.proofs.Parts.{parts-cut, parts-none}
-use Rattle.text.proofs.Picks.{order}
+use Rattle.text.proofs.Picks.{cases, order}
 use Rattle.text.proofs.Seeking.{part-ends}
 use Rattle.model.specs.Tables.{Table}
 use Rattle.model.specs.declared.State.{State}
@@ -16,8 +18,9 @@ use Rattle.model.specs.declared.Step.{Step}
 use Rattle.model.specs.declared.Line.the-variants.{Is, Bad}
 use Rattle.log.specs.Lines.{setDigits, readStep}
 use Rattle.log.proofs.Shapes.{no-step}
-use Rattle.engine.specs.Play.{pieces, stopped, onStep, onLine, played}
-use Rattle.engine.specs.Turns.{lineAt}
+use Rattle.saved.specs.Rows.{beginsRow}
+use Rattle.engine.specs.Play.{Played, pieces, stopped, onStep, upToRow, paused, isClosed, isRow, AtRow}
+use Rattle.engine.specs.Turns.{lineAt, rowOr}
 use Rattle.tally.specs.declared.Tally.{Tally}
 use Rattle.engine.specs.declared.Stop.the-variants.{End, Refused}
 
@@ -27,18 +30,28 @@ from-here log at e h f =
     let q : partsFrom 10 log at ≡ pieces log at = rw (le-ltb _ _ h) in
     sym q ∙ rw f (parts-cut 10 log at h)
 
+-- a line ended by a newline is the first of those from a place on: what is told of the first of more lines is told of it
+pub first-line : (log : List ℕ) (at e : ℕ) → at ≤ length log → e ≡ firstAt log at 10 → e < length log → (F : List (List ℕ) → Played) (G : List ℕ → List (List ℕ) → List (List ℕ) → Played)
+    → ((p q : List ℕ) (ps : List (List ℕ)) → F (p ∷ q ∷ ps) ≡ G p (p ∷ q ∷ ps) (q ∷ ps)) → F (pieces log at) ≡ G (take (e - at) (drop at log)) (pieces log at) (pieces log (e + 1))
+first-line log at e h f l F G m =
+    let p = take (e - at) (drop at log) in
+    let k : e + 1 ≤ length log = omega arith in
+    let q : pieces log at ≡ p ∷ pieces log (e + 1) = from-here log at e h f ∙ rw (le-ltb _ _ k) in
+    subst⁻¹ (λ ps. F ps ≡ G p ps (pieces log (e + 1))) q
+    (subst⁻¹ (λ ps. F (p ∷ ps) ≡ G p (p ∷ ps) ps) (from-here log (e + 1) _ k refl) (m p _ _))
+
 module _ (K : Table) (s : State) (c : Tally) (room : ℕ) (log : List ℕ) where
   -- at the end there is no line
-  pub at-end : (at : ℕ) → length log ≤ at → played K s c room (pieces log at) ≡ stopped s c End (pieces log at)
-  unfolding played
+  pub at-end : (at : ℕ) → length log ≤ at → paused K s c room (pieces log at) ≡ stopped s c End (pieces log at)
+  unfolding paused
   at-end at h = rw (drop-of-length-le log h)
 
-  one-more : (p : List ℕ) (ps qs : List (List ℕ)) (q : List ℕ) → ps ≡ q ∷ qs → played K s c room (p ∷ ps) ≡ onLine K s c room (readStep setDigits p) (p ∷ ps) ps (λ w d n. played K w d n ps)
-  unfolding played
-  one-more p ps qs q e = subst⁻¹ (λ ps. played K s c room (p ∷ ps) ≡ onLine K s c room (readStep setDigits p) (p ∷ ps) ps (λ w d n. played K w d n ps)) e refl
+  one-more : (p q : List ℕ) (ps : List (List ℕ)) → paused K s c room (p ∷ q ∷ ps) ≡ upToRow K s c room p (readStep setDigits p) (p ∷ q ∷ ps) (q ∷ ps) (λ w d n. paused K w d n (q ∷ ps))
+  unfolding paused
+  one-more p q ps = refl
 
-  one-last : (p : List ℕ) → 0 < length p → played K s c room (p ∷ []) ≡ stopped s c (Refused 11) (p ∷ [])
-  unfolding played
+  one-last : (p : List ℕ) → 0 < length p → paused K s c room (p ∷ []) ≡ stopped s c (Refused 11) (p ∷ [])
+  unfolding paused
   one-last [] h = absurd (omega arith)
   one-last (b ∷ p) h = refl
 
@@ -47,27 +60,27 @@ module _ (K : Table) (s : State) (c : Tally) (room : ℕ) (log : List ℕ) where
     before-end = omega arith
 
     -- a line ended by a newline
-    ended : e < length log → played K s c room (pieces log at) ≡ onLine K s c room (lineAt log at e) (pieces log at) (pieces log (e + 1)) (λ w d n. played K w d n (pieces log (e + 1)))
+    ended : e < length log → paused K s c room (pieces log at) ≡ upToRow K s c room (take (e - at) (drop at log)) (lineAt log at e) (pieces log at) (pieces log (e + 1)) (λ w d n. paused K w d n (pieces log (e + 1)))
     ended l =
-        let p = take (e - at) (drop at log) in
-        let k : e + 1 ≤ length log = omega arith in
         let ne : e ≡ length log → ⊥ = λ z. omega arith in
-        let q : pieces log at ≡ p ∷ pieces log (e + 1) = from-here log at e before-end f ∙ rw (le-ltb _ _ k) in
-        subst⁻¹ (λ ps. played K s c room ps ≡ onLine K s c room (lineAt log at e) ps (pieces log (e + 1)) (λ w d n. played K w d n (pieces log (e + 1)))) q
-        (rw (ne-eqb _ _ ne) (one-more p (pieces log (e + 1)) _ _ (from-here log (e + 1) _ k refl)))
+        rw (ne-eqb _ _ ne)
+        (first-line log at e before-end f l (paused K s c room) (λ p here rest. upToRow K s c room p (readStep setDigits p) here rest (λ w d n. paused K w d n rest)) one-more)
 
     -- a line without newline
-    open-ended : length log ≤ e → played K s c room (pieces log at) ≡ stopped s c (Refused 11) (pieces log at)
+    open-ended : length log ≤ e → paused K s c room (pieces log at) ≡ stopped s c (Refused 11) (pieces log at)
     open-ended l =
         let p = take (e - at) (drop at log) in
         let q : pieces log at ≡ p ∷ [] = from-here log at e before-end f ∙ ap (p ∷_) (parts-none 10 log (e + 1) (omega arith)) in
         let n = length-drop at log in
         let t = part-ends log at e 10 before-end f in
-        subst⁻¹ (λ ps. played K s c room ps ≡ stopped s c (Refused 11) ps) q (one-last p (omega (arith, length-take-le (e - at) (drop at log) (omega arith))))
+        subst⁻¹ (λ ps. paused K s c room ps ≡ stopped s c (Refused 11) ps) q (one-last p (omega (arith, length-take-le (e - at) (drop at log) (omega arith))))
 
     -- not a step
-    pub at-bad : lineAt log at e ≡ Bad → played K s c room (pieces log at) ≡ stopped s c (Refused 11) (pieces log at)
-    at-bad b = order e (length log) (λ l. ended l ∙ rw b) open-ended
+    pub at-unread : lineAt log at e ≡ Bad → paused K s c room (pieces log at) ≡ stopped s c (rowOr log at e 11) (pieces log at)
+    at-unread b =
+        order e (length log)
+        (λ l. let ne : e ≡ length log → ⊥ = λ z. omega arith in ended l ∙ rw (b, ne-eqb _ _ ne))
+        (λ l. let q : e ≡ length log = omega (arith, part-ends log at e 10 before-end f) in open-ended l ∙ rw (eq-eqb _ _ q))
 
     module _ (x : Step) (i : lineAt log at e ≡ Is x) where
       -- a step's line is ended by a newline
@@ -76,5 +89,23 @@ module _ (K : Table) (s : State) (c : Tally) (room : ℕ) (log : List ℕ) where
           let q : e ≡ length log = omega (arith, part-ends log at e 10 before-end f) in
           absurd (no-step (rw (eq-eqb _ _ q) at i)))
 
-      pub at-step : played K s c room (pieces log at) ≡ onStep K s c room x (pieces log at) (pieces log (e + 1)) (λ w d n. played K w d n (pieces log (e + 1)))
+      pub at-step : paused K s c room (pieces log at) ≡ onStep K s c room x (pieces log at) (pieces log (e + 1)) (λ w d n. paused K w d n (pieces log (e + 1)))
       at-step = ended step-ends ∙ rw i
+
+-- a line that is no step closes no cycle
+pub unread-unclosed : {P : Type 0} (log : List ℕ) (at e : ℕ) → T (isClosed (rowOr log at e 11)) → P
+unread-unclosed log at e t =
+    cases (eqb e (length log))
+    (λ h. absurd (rw h at t))
+    (λ h. cases (beginsRow (take (e - at) (drop at log))) (λ y. absurd (rw (h, y) at t)) (λ y. absurd (rw (h, y) at t)))
+
+-- a run that leaves at a row: it stands there with its newline
+pub row-there : (log : List ℕ) (at e : ℕ) → at < length log → e ≡ firstAt log at 10 → T (isRow (rowOr log at e 11)) → AtRow log at
+row-there log at e h f t =
+    order e (length log)
+    (λ l.
+    let ne : e ≡ length log → ⊥ = λ z. omega arith in
+    cases (beginsRow (take (e - at) (drop at log)))
+    (λ y. record { ends = omega (arith, f); begins = subst (λ e. beginsRow (take (e - at) (drop at log)) ≡ true) f y })
+    (λ y. absurd (rw (ne-eqb _ _ ne, y) at t)))
+    (λ l. let q : e ≡ length log = omega (arith, part-ends log at e 10 (omega arith) f) in absurd (rw (eq-eqb _ _ q) at t))

@@ -1,6 +1,6 @@
 -- A run, line after line: what its loop keeps, where it stops, how an accepted step takes it on, and how the row of a kept cycle is told.
 use Prim.Native.Nat.{ℕ, _+_, _-_, _≤_, _<_}
-use mathlib.Core.List.{List, [], _∷_, _++_, append-assoc, append-nil}
+use mathlib.Core.List.{List, [], _∷_, _++_, append-nil}
 use mathlib.Core.Path.{_≡_, refl, ap, sym, subst⁻¹, _∙_}
 use native.Mathlib.Omega.{arith}
 use borrow.Author.Tests.{ne-eqb, le-leb, lt-leb}
@@ -33,8 +33,8 @@ use Rattle.report.specs.Rows.{cycleOf, cycleText}
 use Rattle.report.specs.declared.Cycle.{Cycle}
 use Rattle.report.proofs.Lines.{put-length, row-some}
 use Rattle.tally.specs.Tallies.{rulingOf, tallied, Roomy}
-use Rattle.engine.specs.Play.{Played, playedTo, pieces, stopped, telling, onKept, onVerdict, onStep, played, ranOf, Ready, isClosed, Runs}
-use Rattle.engine.specs.Turns.{lineAt, stopOf}
+use Rattle.engine.specs.Play.{Played, playedTo, pieces, stopped, telling, onKept, onVerdict, onStep, paused, ranOf, Ready, isClosed, isRow, AtRow, Pauses}
+use Rattle.engine.specs.Turns.{lineAt, rowOr, stopAt}
 use Rattle.tally.specs.declared.Tally.{Tally}
 use Rattle.tally.specs.declared.Ruling.{Ruling}
 use Rattle.tally.specs.declared.Ruling.the-variants.{Kept}
@@ -43,8 +43,9 @@ use Rattle.engine.specs.declared.Stop.the-variants.{End, Refused, Closed
 use Rattle.engine.specs.declared.Going.{Going}
 use Rattle.engine.specs.declared.Ran.{Ran}
 use Rattle.tally.proofs.Ruling.{the-type}
-use Rattle.engine.proofs.Answers.{stop-refused}
-use Rattle.engine.proofs.Lines.{at-end, at-bad, step-ends, at-step}
+use Rattle.engine.proofs.Answers.{stop-step}
+use Rattle.engine.proofs.Lines.{at-end, at-unread, step-ends, at-step, unread-unclosed, row-there}
+use Rattle.engine.proofs.Pausing.{telling-more, playedOn, plays-on}
 use Rattle.tally.proofs.Tallying.{roomy-one}
 
 -- what holds where a line starts: the state is sound, what is kept beside it agrees, and there is room to count the lines left
@@ -63,23 +64,20 @@ pub record Rows (lent : List ℕ) (place : ℕ) (buf : List ℕ) (end : ℕ) : T
   pub filled : end ≡ place + length text
   pub bytes : buf ≡ sets lent place text
 
--- and the lines from there on come, behind those rows, to what all come to from the start
+-- and the lines from there up to a `state` row come, behind those rows, to what all come to from the start
 pub record Plays (K : Table) (log : List ℕ) (from : ℕ) (s₀ : State) (c₀ : Tally) (lent : List ℕ) (place : ℕ) (s : State) (b l : List ℕ) (c : Tally) (at : ℕ) (buf : List ℕ) (filled : ℕ) : Type 0 where
   pub here : Stands K log from s b l c at
   pub rows : Rows lent place buf filled
-  pub rest : telling (rows .text) (played K s c (length lent - filled) (pieces log at)) ≡ played K s₀ c₀ (length lent - place) (pieces log from)
+  pub rest : telling (rows .text) (paused K s c (length lent - filled) (pieces log at)) ≡ paused K s₀ c₀ (length lent - place) (pieces log from)
 
 -- and no line was refused
 pub record Continues (K : Table) (log : List ℕ) (from : ℕ) (s₀ : State) (c₀ : Tally) (lent : List ℕ) (place : ℕ) (s : State) (b l : List ℕ) (c : Tally) (at : ℕ) (buf : List ℕ) (filled n : ℕ) : Type 0 where
   pub plays : Plays K log from s₀ c₀ lent place s b l c at buf filled
   pub none : n ≡ 0
 
--- rows told before nothing, and before a row more
+-- rows told before nothing
 telling-none : (text : List ℕ) (s : State) (c : Tally) (w : Stop) (ps : List (List ℕ)) → telling text (stopped s c w ps) ≡ playedTo text s c w ps
 telling-none text s c w ps = ap (λ l. playedTo l s c w ps) (append-nil text)
-
-telling-more : (text row : List ℕ) (p : Played) → telling text (telling row p) ≡ telling (text ++ row) p
-telling-more text row p = ap (λ l. playedTo l (p .state) (p .tally) (p .stop) (p .rest)) (sym (append-assoc text row (p .text)))
 
 module _ {K : Table} {log : List ℕ} {from : ℕ} {s : State} {b l : List ℕ} {c : Tally} {at : ℕ} (H : Stands K log from s b l c at) where
   pub busy-sized : mostActs ≡ length b
@@ -96,22 +94,30 @@ rows-kept {lent} {place = place} R = ap length (R .bytes) ∙ length-sets lent p
 rows-more : {lent buf : List ℕ} {place end : ℕ} (R : Rows lent place buf end) (row : List ℕ) → sets buf end row ≡ sets lent place (R .text ++ row)
 rows-more {lent} {place = place} R row = rw (R .bytes, R .filled) (sym (sets-append lent place (R .text) row))
 
--- a run that stops where a line starts
+-- a run that leaves where a line starts
 module _ (K : Table) (log : List ℕ) (from : ℕ) (g : Going) {lent : List ℕ} {place : ℕ} {s : State} {b l : List ℕ} {c : Tally} {at : ℕ} {buf : List ℕ} {filled : ℕ}
     (H : Stands K log from s b l c at) (R : Rows lent place buf filled) where
-  stops-at : (w : Stop) → telling (R .text) (stopped s c w (pieces log at)) ≡ played K (g .state) (g .tally) (length lent - place) (pieces log from) → (T (isClosed w) → from < at)
-      → (r : Ran) → r ≡ ranOf s b l c at filled w → Runs K log from g lent place r buf
-  stops-at w e n r q = subst⁻¹ (λ r. Runs K log from g lent place r buf) q (record {
-    text = R .text;
-    played = sym (telling-none (R .text) s c w (pieces log at)) ∙ e;
-    fits = R .fits;
-    filled = R .filled;
-    bytes = R .bytes;
-    within = H .within;
-    onward = n;
-    ready = record { sound = of-sound K s (H .sound); busy = H .busy; listed = H .listed };
-    roomy = H .roomy;
-  })
+  stops-at : (w : Stop) → telling (R .text) (stopped s c w (pieces log at)) ≡ paused K (g .state) (g .tally) (length lent - place) (pieces log from) → (T (isClosed w) → from < at) → (T (isRow w) → AtRow log at)
+      → (r : Ran) → r ≡ ranOf s b l c at filled w → Pauses K log from g lent place r buf
+  stops-at w e n o r q =
+      let p : playedTo (R .text) s c w (pieces log at) ≡ paused K (g .state) (g .tally) (length lent - place) (pieces log from) = sym (telling-none (R .text) s c w (pieces log at)) ∙ e in
+      let room : length lent - (place + length (R .text)) ≡ length lent - place - length (R .text) = omega arith in
+      subst⁻¹ (λ r. Pauses K log from g lent place r buf) q (record {
+        runs = record {
+          text = R .text;
+          played = rw room (ap (playedOn K (length lent - place)) p ∙ sym (plays-on K (pieces log from) (g .state) (g .tally) (length lent - place)));
+          fits = R .fits;
+          filled = R .filled;
+          bytes = R .bytes;
+          within = H .onward;
+          inside = H .within;
+          atRow = o;
+          onward = n;
+          ready = record { sound = of-sound K s (H .sound); busy = H .busy; listed = H .listed };
+          roomy = H .roomy;
+        };
+        paused = p;
+      })
 
 module _ (K : Table) (log : List ℕ) (from : ℕ) (g : Going) (lent : List ℕ) (place : ℕ) where
   -- the start
@@ -124,18 +130,18 @@ module _ (K : Table) (log : List ℕ) (from : ℕ) (g : Going) (lent : List ℕ)
 
   module _ {s : State} {b l : List ℕ} {c : Tally} {at : ℕ} {buf : List ℕ} {filled : ℕ} (Z : Plays K log from (g .state) (g .tally) lent place s b l c at buf filled) (r : Ran) where
     -- it stops at a line
-    stops-here : (w : Stop) → played K s c (length lent - filled) (pieces log at) ≡ stopped s c w (pieces log at) → (T (isClosed w) → from < at) → r ≡ ranOf s b l c at filled w
-        → Runs K log from g lent place r buf
-    stops-here w e n = stops-at K log from g (Z .here) (Z .rows) w (ap (telling (Z .rows .text)) (sym e) ∙ Z .rest) n r
+    stops-here : (w : Stop) → paused K s c (length lent - filled) (pieces log at) ≡ stopped s c w (pieces log at) → (T (isClosed w) → from < at) → (T (isRow w) → AtRow log at) → r ≡ ranOf s b l c at filled w
+        → Pauses K log from g lent place r buf
+    stops-here w e n o = stops-at K log from g (Z .here) (Z .rows) w (ap (telling (Z .rows .text)) (sym e) ∙ Z .rest) n o r
 
     -- the log's end
-    pub run-ends : length log ≤ at → {n m : ℕ} → n ≡ m → m ≡ 0 → {w : Stop} → w ≡ stopOf n → r ≡ ranOf s b l c at filled w → Runs K log from g lent place r buf
-    run-ends h e z p q = stops-here End (at-end K s c (length lent - filled) log at h) (λ t. absurd t) (q ∙ rw (p, e, z))
+    pub run-ends : length log ≤ at → {n m : ℕ} → n ≡ m → m ≡ 0 → {w : Stop} → w ≡ stopAt log at n → r ≡ ranOf s b l c at filled w → Pauses K log from g lent place r buf
+    run-ends h e z p q = stops-here End (at-end K s c (length lent - filled) log at h) (λ t. absurd t) (λ t. absurd t) (q ∙ rw (p, e, z))
 
-    -- a line that is not a step
-    pub run-bad : (e : ℕ) → at < length log → e ≡ firstAt log at 10 → (x : Line) → x ≡ lineAt log at e → x ≡ Bad → {n : ℕ} → n ≡ 11 → {w : Stop} → w ≡ stopOf n → r ≡ ranOf s b l c at filled w
-        → Runs K log from g lent place r buf
-    run-bad e h f x q i z p o = stops-here (Refused 11) (at-bad K s c (length lent - filled) log at e h f (sym q ∙ i)) (λ t. absurd t) (o ∙ rw (p, z))
+    -- a line that is no step: refused with 11, or a `state` row, which is for the caller to take
+    pub run-unread : (e : ℕ) → at < length log → e ≡ firstAt log at 10 → (x : Line) → x ≡ lineAt log at e → x ≡ Bad → {m : ℕ} → m ≡ 11 → {w : Stop} → w ≡ stopAt log at m → r ≡ ranOf s b l c at filled w
+        → Pauses K log from g lent place r buf
+    run-unread e h f x q i z p o = stops-here (rowOr log at e 11) (at-unread K s c (length lent - filled) log at e h f (sym q ∙ i)) (unread-unclosed log at e) (row-there log at e h f) (o ∙ rw (p, z, f))
 
 -- what an accepted step comes to, by its verdict as the code has it
 module _ (s : State) (c : Tally) (room : ℕ) (ls : List (List ℕ)) (go : ℕ → Played) where
@@ -177,11 +183,11 @@ abbrev ComesTo : Scene → State → List ℕ → List ℕ → Tally → ℕ →
 ComesTo σ w b l d at buf filled = Plays (table σ) (σ .log) (σ .from) (σ .start .state) (σ .start .tally) (σ .lent) (σ .place) w b l d at buf filled
 
 abbrev pub StopsAs : Scene → Ran → Type 0
-StopsAs σ r = Runs (table σ) (σ .log) (σ .from) (σ .start) (σ .lent) (σ .place) r (σ .buf)
+StopsAs σ r = Pauses (table σ) (σ .log) (σ .from) (σ .start) (σ .lent) (σ .place) r (σ .buf)
 
 -- what all lines come to from the start, the room that is left, and the lines behind the next newline
 abbrev whole : Scene → Played
-whole σ = played (table σ) (σ .start .state) (σ .start .tally) (length (σ .lent) - σ .place) (pieces (σ .log) (σ .from))
+whole σ = paused (table σ) (σ .start .state) (σ .start .tally) (length (σ .lent) - σ .place) (pieces (σ .log) (σ .from))
 
 abbrev left : Scene → ℕ
 left σ = length (σ .lent) - σ .filled
@@ -244,13 +250,13 @@ module _ {σ : Scene} (Z : Turn σ) where
   abbrev rows-here : Rows (σ .lent) (σ .place) (σ .buf) (σ .filled)
   rows-here = Z .plays .rows
 
-  played-here : whole σ ≡ telling (rows-here .text) (onStep (table σ) (σ .state) (σ .tally) (left σ) (σ .step) (pieces (σ .log) (σ .at)) (linesAfter σ) (λ w d n. played (table σ) w d n (linesAfter σ)))
+  played-here : whole σ ≡ telling (rows-here .text) (onStep (table σ) (σ .state) (σ .tally) (left σ) (σ .step) (pieces (σ .log) (σ .at)) (linesAfter σ) (λ w d n. paused (table σ) w d n (linesAfter σ)))
   played-here = sym (Z .plays .rest) ∙ ap (telling (rows-here .text)) (at-step (table σ) (σ .state) (σ .tally) (left σ) (σ .log) (σ .at) (σ .newline) (Z .inside) (Z .ends) (σ .step) (Z .line))
 
   -- the step is refused
-  pub turn-stops : {n : ℕ} → n ≡ refusal (table σ) (σ .state) (σ .step) → (n ≡ 0 → ⊥) → {m : ℕ} → m ≡ n → {w : Stop} → w ≡ stopOf m → {r : Ran} → r ≡ ranOf (σ .state) (σ .busy) (σ .listed) (σ .tally) (σ .at) (σ .filled) w → StopsAs σ r
+  pub turn-stops : {n : ℕ} → n ≡ refusal (table σ) (σ .state) (σ .step) → (n ≡ 0 → ⊥) → {m : ℕ} → m ≡ n → {w : Stop} → w ≡ stopAt (σ .log) (σ .at) m → {r : Ran} → r ≡ ranOf (σ .state) (σ .busy) (σ .listed) (σ .tally) (σ .at) (σ .filled) w → StopsAs σ r
   turn-stops {n} q z i p {r} e =
-      stops-at (table σ) (σ .log) (σ .from) (σ .start) here rows-here (Refused n) (sym (played-here ∙ rw (← q, ne-eqb n 0 z))) (λ t. absurd t) r (e ∙ rw (p, i, ← stop-refused n z))
+      stops-at (table σ) (σ .log) (σ .from) (σ .start) here rows-here (Refused n) (sym (played-here ∙ rw (← q, ne-eqb n 0 z))) (λ t. absurd t) (λ t. absurd t) r (e ∙ rw (p, i, ← stop-step (σ .log) (σ .at) n z (σ .newline) (Z .ends) (σ .step) (Z .line)))
 
 module _ {σ : Scene} {w : State} {b l : List ℕ} {d : Tally} {v : Ruling} (G : Goes σ w b l d v) where
   after : Stands (table σ) (σ .log) (σ .from) w b l d (σ .newline + 1)
@@ -266,7 +272,7 @@ module _ {σ : Scene} {w : State} {b l : List ℕ} {d : Tally} {v : Ruling} (G :
   abbrev rows : Rows (σ .lent) (σ .place) (σ .buf) (σ .filled)
   rows = rows-here (G .turn)
 
-  played-after : whole σ ≡ telling (rows .text) (onVerdict (given σ) w d (left σ) (linesAfter σ) (λ n. played (table σ) w d n (linesAfter σ)))
+  played-after : whole σ ≡ telling (rows .text) (onVerdict (given σ) w d (left σ) (linesAfter σ) (λ n. paused (table σ) w d n (linesAfter σ)))
   played-after = played-here (G .turn) ∙ rw (G .accepted, G .state, G .tally)
 
   -- no cycle is kept
@@ -275,7 +281,7 @@ module _ {σ : Scene} {w : State} {b l : List ℕ} {d : Tally} {v : Ruling} (G :
 
   -- a cycle is kept, and its row asks for room
   module _ (k : Cycle) (i : v ≡ Kept k) (more : ℕ) (buf : List ℕ) (p : Put (σ .buf) (σ .filled) (cycleText k) more buf) where
-    played-kept : whole σ ≡ telling (rows .text) (onKept k w d (left σ) (linesAfter σ) (λ n. played (table σ) w d n (linesAfter σ)))
+    played-kept : whole σ ≡ telling (rows .text) (onKept k w d (left σ) (linesAfter σ) (λ n. paused (table σ) w d n (linesAfter σ)))
     played-kept = played-after ∙ ap (telling (rows .text)) (on-kept w d _ _ _ (given σ) k (sym (G .ruling) ∙ i))
 
     size : length (σ .buf) ≡ length (σ .lent)
@@ -287,13 +293,13 @@ module _ {σ : Scene} {w : State} {b l : List ℕ} {d : Tally} {v : Ruling} (G :
 
     -- it has none
     pub turn-full : more ≡ σ .filled → (r : Ran) → r ≡ ranOf w b l d (σ .newline + 1) (σ .filled) (Closed k)
-        → Runs (table σ) (σ .log) (σ .from) (σ .start) (σ .lent) (σ .place) r buf
+        → Pauses (table σ) (σ .log) (σ .from) (σ .start) (σ .lent) (σ .place) r buf
     turn-full e =
         let short : length (σ .buf) < σ .filled + length (cycleText k) =
         order (length (σ .buf)) (σ .filled + length (cycleText k)) (λ l. l) (λ l. absurd (omega (arith, put-fits l p .0, row-some k))) in
         let lack : left σ < length (cycleText k) = omega (arith, size, rows .fits, rows .filled) in
         stops-at (table σ) (σ .log) (σ .from) (σ .start) after (record { text = rows .text; fits = rows .fits; filled = rows .filled; bytes = put-short short p .1 ∙ rows .bytes })
-        (Closed k) (sym (played-kept ∙ rw (lt-leb _ _ lack))) (λ t. omega (arith, here (G .turn) .onward, onward (G .turn)))
+        (Closed k) (sym (played-kept ∙ rw (lt-leb _ _ lack))) (λ t. omega (arith, here (G .turn) .onward, onward (G .turn))) (λ t. absurd t)
 
     -- it is written, and the run goes on behind it
     pub turn-told : (more ≡ σ .filled → ⊥) → {m : ℕ} → m ≡ 0 → Continues (table σ) (σ .log) (σ .from) (σ .start .state) (σ .start .tally) (σ .lent) (σ .place) w b l d (σ .newline + 1) buf more m

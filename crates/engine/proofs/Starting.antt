@@ -16,9 +16,10 @@ use Rattle.model.specs.declared.State.{State}
 use Rattle.model.proofs.Soundness.{fresh-sound}
 use Rattle.conflicts.specs.Busy.{busyOf}
 use Rattle.managing.specs.Listed.{listedOf}
-use Rattle.tally.specs.Tallies.{noTally, mostCount, Roomy}
+use Rattle.tally.specs.Tallies.{mostCount, Roomy}
+use Rattle.tally.specs.declared.Tally.{Tally}
 use Rattle.engine.specs.Play.{Ready}
-use Rattle.engine.specs.Starts.{goingFrom, freshGoing}
+use Rattle.engine.specs.Starts.{goingAt, goingFrom, freshGoing}
 use Rattle.engine.specs.declared.Going.{Going}
 
 -- the first a of the numbers l are those of the first a activities
@@ -44,16 +45,17 @@ module _ {f : Act → ℕ} {acts : List Act} {l : List ℕ} where
   noted-all : {a : ℕ} → Noted f acts l a → mostActs ≤ a → l ≡ map f acts
   noted-all {a} N h = sym (take-all a l (omega (arith, N .size))) ∙ N .same ∙ rw (take-all a acts (omega (arith, N .rows)))
 
-pub going-made : {busy listed : List ℕ} {a : ℕ} (s : State) → Noted busyOf (s .acts) busy a → Noted listedOf (s .acts) listed a → mostActs ≤ a → record { state = s; busy = busy; listed = listed; tally = noTally } ≡ goingFrom s
-going-made s B L h = rw (noted-all B h, noted-all L h)
+pub going-made : {busy listed : List ℕ} {a : ℕ} (s : State) (c : Tally) → Noted busyOf (s .acts) busy a → Noted listedOf (s .acts) listed a → mostActs ≤ a → record { state = s; busy = busy; listed = listed; tally = c } ≡ goingAt s c
+going-made s c B L h = rw (noted-all B h, noted-all L h)
 
--- a run may start at a sound state, and at the fresh one
+-- a run may start at a sound state, whatever the tally, and at the fresh one
+pub ready : (s : State) (c : Tally) (g : Going) → g ≡ goingAt s c → (K : Table) → T (sound K s) → Ready K g
+ready s c g e K h = subst⁻¹ (λ g. Ready K g) e (record { sound = h; busy = refl; listed = refl })
+
+-- and with nothing counted there is room
 module _ (s : State) (g : Going) (e : g ≡ goingFrom s) where
-  pub ready : (K : Table) → T (sound K s) → Ready K g
-  ready K h = subst⁻¹ (λ g. Ready K g) e (record { sound = h; busy = refl; listed = refl })
-
   pub roomy : (n : ℕ) → n ≤ mostCount → Roomy (g .tally) n
-  roomy n h = let k : 0 + n ≤ mostCount = omega arith in subst⁻¹ (λ g. Roomy (g .tally) n) e (record { steps = k; opened = k; kept = k; dropped = k; since = k })
+  roomy n h = let k : 0 + n ≤ mostCount = omega arith in subst⁻¹ (λ g. Roomy (g .tally) n) e (record { lines = k; opened = k; kept = k; dropped = k; since = k })
 
   pub going-fresh : s ≡ fresh → g ≡ freshGoing
   unfolding freshGoing

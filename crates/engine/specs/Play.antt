@@ -1,13 +1,13 @@
 -- A log played by the rules, line after line, up to its end, the first refusal, or a kept cycle whose row has no room; the rows of the
--- cycles kept before are told on the way.
+-- cycles kept before are told on the way, and each `state` row is taken where it stands.
 use Prim.Native.Nat.{ℕ, _+_, _-_, _≤_, _<_}
 use mathlib.Core.Bool.{Bool, true, false}
 use mathlib.Core.List.{List, [], _∷_, _++_}
 use mathlib.Core.Path.{_≡_}
-use lib.ListN.{length, drop}
+use lib.ListN.{length, take, drop}
 use lib.Seq.{sets}
 use lib.Dec.{T, leb}
-use Rattle.text.specs.Parts.{pick, splitOn}
+use Rattle.text.specs.Parts.{pick, splitOn, firstAt}
 use Rattle.model.specs.Tests.{accepted}
 use Rattle.model.specs.Tables.{Table}
 use Rattle.model.specs.Sound.{sound}
@@ -20,12 +20,14 @@ use Rattle.model.specs.declared.Line.the-variants as line
 use Rattle.report.specs.Rows.{cycleOf, cycleText}
 use Rattle.report.specs.declared.Cycle.{Cycle}
 use Rattle.log.specs.Lines.{setDigits, readStep}
+use Rattle.saved.specs.Rows.{beginsRow}
+use Rattle.entries.specs.Entries.{Resumed, resumed}
 use Rattle.conflicts.specs.Busy.{busyIn}
 use Rattle.managing.specs.Listed.{listedIn}
 use Rattle.tally.specs.Tallies.{tallied, Roomy}
 use Rattle.tally.specs.declared.Tally.{Tally}
 use Rattle.engine.specs.declared.Stop.{Stop}
-use Rattle.engine.specs.declared.Stop.the-variants.{End, Refused, Closed}
+use Rattle.engine.specs.declared.Stop.the-variants.{End, Refused, Closed, Row}
 use Rattle.engine.specs.declared.Going.{Going}
 use Rattle.engine.specs.declared.Ran.{Ran}
 
@@ -77,16 +79,31 @@ onStep K s c room x here rest go =
     (onVerdict (verdict K s x) (next K s x) (tallied K s x c) room rest (go (next K s x) (tallied K s x c)))
     (stopped s c (Refused (refusal K s x)) here)
 
+-- a `state` row, taken or refused: a line, no step
+abbrev pub onRow : State → Tally → ℕ → Resumed → List (List ℕ) → (State → Tally → ℕ → Played) → Played
+onRow s c room r here go = pick (accepted (r .number)) (go (r .state) (r .tally) room) (stopped s c (Refused (r .number)) here)
+
 -- a line with its newline
-abbrev pub onLine : Table → State → Tally → ℕ → Line → List (List ℕ) → List (List ℕ) → (State → Tally → ℕ → Played) → Played
-onLine K s c room line.Bad here rest go = stopped s c (Refused 11) here
-onLine K s c room (line.Is x) here rest go = onStep K s c room x here rest go
+abbrev pub onLine : Table → State → Tally → ℕ → List ℕ → Line → List (List ℕ) → List (List ℕ) → (State → Tally → ℕ → Played) → Played
+onLine K s c room p line.Bad here rest go = pick (beginsRow p) (onRow s c room (resumed K s c p) here go) (stopped s c (Refused 11) here)
+onLine K s c room p (line.Is x) here rest go = onStep K s c room x here rest go
 
 -- the lines of a log, with so much room for rows
 unfoldable pub played : Table → State → Tally → ℕ → List (List ℕ) → Played
 played K s c room [] = stopped s c End []
 played K s c room (p ∷ []) = lastLine s c p
-played K s c room (p ∷ q ∷ ps) = onLine K s c room (readStep setDigits p) (p ∷ q ∷ ps) (q ∷ ps) (λ w d n. played K w d n (q ∷ ps))
+played K s c room (p ∷ q ∷ ps) = onLine K s c room p (readStep setDigits p) (p ∷ q ∷ ps) (q ∷ ps) (λ w d n. played K w d n (q ∷ ps))
+
+-- a line with its newline where each `state` row is left to the caller
+abbrev pub upToRow : Table → State → Tally → ℕ → List ℕ → Line → List (List ℕ) → List (List ℕ) → (State → Tally → ℕ → Played) → Played
+upToRow K s c room p line.Bad here rest go = stopped s c (pick (beginsRow p) Row (Refused 11)) here
+upToRow K s c room p (line.Is x) here rest go = onStep K s c room x here rest go
+
+-- the lines of a log up to its first `state` row, with so much room for rows
+unfoldable pub paused : Table → State → Tally → ℕ → List (List ℕ) → Played
+paused K s c room [] = stopped s c End []
+paused K s c room (p ∷ []) = lastLine s c p
+paused K s c room (p ∷ q ∷ ps) = upToRow K s c room p (readStep setDigits p) (p ∷ q ∷ ps) (q ∷ ps) (λ w d n. paused K w d n (q ∷ ps))
 
 -- a run as the code has it
 abbrev pub ranOf : State → List ℕ → List ℕ → Tally → ℕ → ℕ → Stop → Ran
@@ -102,16 +119,42 @@ abbrev pub isClosed : Stop → Bool
 isClosed End = false
 isClosed (Refused n) = false
 isClosed (Closed c) = true
+isClosed Row = false
+
+abbrev pub isRow : Stop → Bool
+isRow End = false
+isRow (Refused n) = false
+isRow (Closed c) = false
+isRow Row = true
+
+-- where a run left off: it is over; or a `state` row stands there, and the log comes to what it comes to from there on
+abbrev pub leftWith : Table → List ℕ → State → Tally → ℕ → Stop → List (List ℕ) → Played
+leftWith K text s c room End rest = playedTo text s c End rest
+leftWith K text s c room (Refused n) rest = playedTo text s c (Refused n) rest
+leftWith K text s c room (Closed k) rest = playedTo text s c (Closed k) rest
+leftWith K text s c room Row rest = telling text (played K s c room rest)
+
+-- the line at a place is a `state` row with its newline
+pub record AtRow (log : List ℕ) (at : ℕ) : Type 0 where
+  pub ends : firstAt log at 10 < length log
+  pub begins : beginsRow (take (firstAt log at 10 - at) (drop at log)) ≡ true
 
 -- a run over a log from a place, its rows written into a buffer from a place on: the rows, the state and the tally reached, the reason and
 -- the lines left are those that the log comes to with the room that the buffer has
 pub record Runs (K : Table) (log : List ℕ) (from : ℕ) (g : Going) (buf : List ℕ) (place : ℕ) (r : Ran) (after : List ℕ) : Type 0 where
   pub text : List ℕ
-  pub played : playedTo text (r .going .state) (r .going .tally) (r .stop) (pieces log (r .at)) ≡ played K (g .state) (g .tally) (length buf - place) (pieces log from)
+  pub played : leftWith K text (r .going .state) (r .going .tally) (length buf - (place + length text)) (r .stop) (pieces log (r .at)) ≡ played K (g .state) (g .tally) (length buf - place) (pieces log from)
   pub fits : place + length text ≤ length buf
   pub filled : r .filled ≡ place + length text
   pub bytes : after ≡ sets buf place text
-  pub within : r .at ≤ length log
+  pub within : from ≤ r .at
+  pub inside : r .at ≤ length log
+  pub atRow : T (isRow (r .stop)) → AtRow log (r .at)
   pub onward : T (isClosed (r .stop)) → from < r .at
   pub ready : Ready K (r .going)
   pub roomy : Roomy (r .going .tally) (length log - r .at)
+
+-- the same of a run that takes no `state` row: it leaves at the first
+pub record Pauses (K : Table) (log : List ℕ) (from : ℕ) (g : Going) (buf : List ℕ) (place : ℕ) (r : Ran) (after : List ℕ) : Type 0 where
+  pub runs : Runs K log from g buf place r after
+  pub paused : playedTo (runs .text) (r .going .state) (r .going .tally) (r .stop) (pieces log (r .at)) ≡ paused K (g .state) (g .tally) (length buf - place) (pieces log from)

@@ -4,9 +4,9 @@ ghost use Prim.Native.Nat.{_-_, _<_, _≤_};
 ghost use lib.ListN.{length};
 ghost use Rattle.prepared.specs.Prepared.{tableIn, Prepared};
 ghost use Rattle.tally.specs.Tallies.{Roomy};
-ghost use Rattle.engine.specs.Play.{ranOf, Ready, Runs};
-ghost use Rattle.engine.specs.Turns.{lineAt, stopOf};
-ghost use Rattle.engine.specs.Starts.{goingFrom, freshGoing};
+ghost use Rattle.engine.specs.Play.{ranOf, Ready, Pauses};
+ghost use Rattle.engine.specs.Turns.{lineAt, stopAt};
+ghost use Rattle.engine.specs.Starts.{goingAt, goingFrom, freshGoing};
 use model::Holder;
 use model::Line;
 use model::State;
@@ -15,11 +15,12 @@ use report::Cycle;
 use tally::Ruling;
 use tally::Tally;
 
-// Why a run stopped: the log's end, a refused line, or a kept cycle whose row has no room.
+// Why a run stopped: the log's end, a refused line, a kept cycle whose row has no room, or a `state` row, which is for the caller to take.
 pub enum Stop {
     End,
     Refused(u64),
     Closed(Cycle),
+    Row,
 }
 
 // What is carried from run to run: the state, beside it the codel that each activity executes and whether it is in N or R, and the tally.
@@ -50,12 +51,21 @@ fn line_at(log: &[u8], at: usize, e: usize) -> Line
     log::read_step(&log[at..e], log::SET_DIGITS)
 }
 
-// Why a run stopped that no row's lack of room stopped: 0 is the log's end, any other number its refusal.
-fn stop_of(refusal: u64) -> Stop
-    ensures { λ r. ⌜ r ≡ stopOf refusal ⌝ }
+// Why a run stopped that no row's lack of room stopped: 0 is the log's end, any other number the refusal of the line at the place, unless that is
+// a `state` row, which is no step.
+fn stop_at(log: &[u8], at: usize, refusal: u64) -> Stop
+    requires { ⌜ at ≤ length (now log) ⌝ }
+    ensures { λ r. ⌜ r ≡ stopAt (now (log .entry)) at refusal ⌝ }
 {
     if refusal == 0 {
         return Stop::End;
+    }
+    let e = text::next_byte(log, at, text::NEWLINE);
+    if e == log.len() {
+        return Stop::Refused(refusal);
+    }
+    if saved::begins_row(&log[at..e]) {
+        return Stop::Row;
     }
     Stop::Refused(refusal)
 }
@@ -84,7 +94,7 @@ fn left_at(
     }
 }
 
-// Plays a log from a place on, line after line, up to its end or the first refusal, and writes the row of each cycle that is kept as it
+// Plays a log from a place on, line after line, up to its end, the first refusal or a `state` row, and writes the row of each cycle that is kept as it
 // closes, as long as there is room.
 pub fn run(
     rows: &[u32],
@@ -96,7 +106,7 @@ pub fn run(
     place: usize,
 ) -> Ran
     requires { ⌜ Prepared (now rows) (now index) × Ready (tableIn (now rows) (now index)) g × (from ≤ length (now log)) × Roomy (g .tally) (length (now log) - from) × (place ≤ length (now buf)) ⌝ }
-    ensures { λ r. ⌜ Runs (tableIn (now (rows .entry)) (now (index .entry))) (now (log .entry)) from g (now (buf .entry)) place r (now (buf .exit)) ⌝ }
+    ensures { λ r. ⌜ Pauses (tableIn (now (rows .entry)) (now (index .entry))) (now (log .entry)) from g (now (buf .entry)) place r (now (buf .exit)) ⌝ }
 {
     let nt = prepared::tasks(rows, index);
     let mut s = g.state;
@@ -220,12 +230,12 @@ pub fn run(
         }
         filled = more;
     }
-    left_at(s, busy, listed, c, at, filled, stop_of(refusal))
+    left_at(s, busy, listed, c, at, filled, stop_at(log, at, refusal))
 }
 
-// What a run carries that starts at a state, with nothing counted yet.
-pub fn going_from(s: State) -> Going
-    ensures { λ r. ⌜ r ≡ goingFrom s ⌝ }
+// What a run carries that starts at a state and a tally.
+pub fn going_at(s: State, c: Tally) -> Going
+    ensures { λ r. ⌜ r ≡ goingAt s c ⌝ }
 {
     let mut busy = [0usize; model::MOST_ACTS];
     let mut listed = [0usize; model::MOST_ACTS];
@@ -240,15 +250,26 @@ pub fn going_from(s: State) -> Going
         state: s,
         busy: busy,
         listed: listed,
-        tally: Tally {
+        tally: c,
+    }
+}
+
+// The same with nothing counted yet.
+pub fn going_from(s: State) -> Going
+    ensures { λ r. ⌜ r ≡ goingFrom s ⌝ }
+{
+    going_at(
+        s,
+        Tally {
             steps: 0,
+            rows: 0,
             opened: 0,
             kept: 0,
             dropped: 0,
             since: 0,
             most: 0,
         },
-    }
+    )
 }
 
 // Where every log starts.

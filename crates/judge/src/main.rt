@@ -1,59 +1,18 @@
 // The program judge: a table and a log from standard input, the report to standard output. It reads a block, asks what is told of it and
 // writes that, so that memory does not grow with the log; what the bytes are is decided in streaming.
-ghost use Prim.Native.Nat.{_+_, _≤_};
-ghost use lib.ListN.{length, take};
-ghost use mathlib.Core.Path.{_≡_};
-ghost use mathlib.Core.Bool.{true};
+ghost use Prim.Native.Nat.{_≤_};
+ghost use lib.ListN.{length};
 ghost use Rattle.prepared.specs.Prepared.{Prepared};
 ghost use Rattle.table.specs.Checks.{Passes};
-ghost use Rattle.stream.specs.Cut.{cutKnown};
 ghost use Rattle.streaming.specs.Turns.{mostBlock};
-use libc::STDIN_FILENO;
 use libc::STDOUT_FILENO;
 use table::Table;
-
-// How much a block holds, with what is held of the one before: a table with the line behind it fits.
-const BLOCK: usize = 65536;
 
 // Room for the header, or for the report on a refused table.
 const OPENING: usize = 256;
 
 // Room for whatever is told of a block.
 const ROOM: usize = 172032;
-
-// How many blocks are read at most, which is more than any disk holds. A log that has more gets no `sum` row.
-const BLOCKS: u64 = 1099511627776;
-
-// Reads more behind the bytes that the block has, until it is full or the input ends, and says how many came. Those that it has stay.
-fn read_behind(block: &mut [u8], have: usize) -> usize
-    requires { ⌜ have ≤ length (now block) ⌝ }
-    ensures { λ r. ⌜ (have + r ≤ length (now (block .entry))) × (take have (now (block .exit)) ≡ take have (now (block .entry))) ⌝ }
-{
-    io::read_full(STDIN_FILENO, &mut block[have..])
-}
-
-// The bytes at hand, and whether the input has ended.
-struct Start {
-    have: usize,
-    ended: bool,
-}
-
-// Reads until the bytes at hand say where the table ends.
-fn read_start(block: &mut [u8]) -> Start
-    ensures { λ r. ⌜ (r .have ≤ length (now (block .entry))) × (cutKnown (r .ended) (take (r .have) (now (block .exit))) ≡ true) ⌝ }
-{
-    let mut have = 0;
-    let mut ended = false;
-    while !stream::cut_known(&block[..have], ended) {
-        let got = read_behind(block, have);
-        have += got;
-        ended = got == 0;
-    }
-    Start {
-        have: have,
-        ended: ended,
-    }
-}
 
 // Judges the log block after block, up to its end or the first refusal. So many bytes of it stand at the front of the first block already.
 // Where a write fails nobody reads on, and the program ends.
@@ -65,7 +24,7 @@ fn judge_blocks(rows: &[u32], index: &[u32], block: &mut [u8], start: usize, las
     let mut have = start;
     let mut ended = last;
     let mut turns = 0;
-    while turns < BLOCKS {
+    while turns < blocks::BLOCKS {
         turns += 1;
         let turn = streaming::judge_block(rows, index, block, have, ended, g, &mut out);
         let told = turn.told;
@@ -77,7 +36,7 @@ fn judge_blocks(rows: &[u32], index: &[u32], block: &mut [u8], start: usize, las
         }
         g = turn.going;
         have = turn.held;
-        let got = read_behind(block, have);
+        let got = blocks::read_behind(block, have);
         have += got;
         ended = got == 0;
     }
@@ -94,8 +53,8 @@ fn judge_log(t: Table, block: &mut [u8], have: usize, ended: bool)
 
 fn main() {
     let mut out = [0u8; OPENING];
-    let mut block = [0u8; BLOCK];
-    let start = read_start(&mut block);
+    let mut block = [0u8; blocks::BLOCK];
+    let start = blocks::read_start(&mut block);
     let have = start.have;
     let opened = streaming::open_table(&mut block, have, &mut out);
     let told = opened.told;

@@ -2,7 +2,7 @@
 use Prim.Native.Nat.{ℕ, _+_, _-_, _*_, _/_, _≤_, _<_}
 use mathlib.Core.Bool.{Bool, true, false, cond}
 use mathlib.Core.List.{List, [], _∷_}
-use mathlib.Core.Path.{_≡_, refl, ap}
+use mathlib.Core.Path.{_≡_, refl, ap, _∙_}
 use native.Mathlib.Omega.{arith}
 use lib.Dec.{T, leb, leb→le, eqb, eqb→eq}
 use lib.ListN.{length, getD, length-append}
@@ -17,37 +17,40 @@ use Rattle.text.proofs.Parts.{join-split}
 use Rattle.text.proofs.Words.{word-read}
 use Rattle.text.proofs.Numbers.{digits-read, digits-short, length-digits, width-within}
 use Rattle.text.proofs.Sets.{set-length}
-use Rattle.model.specs.Tests.{one, each, sum, accepted}
+use Rattle.model.specs.Tests.{_and_, one, each, sum, accepted}
 use Rattle.model.specs.Limits.{mostTasks, mostTicks, ceiling}
 use Rattle.model.specs.Tables.{Table}
 use Rattle.model.specs.Rows.{wellformed}
 use Rattle.model.specs.States.{fresh, taskAt}
 use Rattle.model.specs.Rules.{refusal, next}
-use Rattle.model.specs.Logs.{allAccepted, reached}
-use Rattle.model.specs.Cycles.{KeptRow, SumRow, Verdict, none, kept, dropped, keptRow, keeps, verdict, isFm, isVerdict, opens, openedIn, keptIn, drops, droppedIn, managing, stepsOf, stopOn, reportOf, report}
+use Rattle.model.specs.Logs.{allAccepted}
+use Rattle.model.specs.Cycles.{KeptRow, SumRow, Verdict, none, kept, dropped, keptRow, keeps, verdict, isFm, isVerdict, opens, openedIn, keptIn, drops, droppedIn, managing, stepsOf, linesDone, stopOn}
 use Rattle.model.specs.declared.State.{State}
 use Rattle.model.specs.declared.TaskStep.the-variants.{St, Fm}
 use Rattle.model.specs.declared.Step.{Step}
 use Rattle.model.specs.declared.Step.the-variants.{Wait, Sm, OfTask, OfAct}
 use Rattle.model.specs.declared.Line.{Line}
 use Rattle.model.specs.declared.Line.the-variants.{Is, Bad}
-use Rattle.model.proofs.Tests.{and-both, each-at}
+use Rattle.model.proofs.Balance.{balance-from, fresh-managing}
+use Rattle.model.proofs.Tests.{T-true, true-T, and-r, and-both, each-at}
 use Rattle.model.proofs.Formed.{Formed, formed}
 use Rattle.model.proofs.Soundness.{Sound, start-sound, task-at}
 use Rattle.model.proofs.Accepted.{fm-goes}
 use Rattle.model.proofs.StepsKeep.{step-keeps}
 use Rattle.model.proofs.Verdicts.{verdict-at-fm}
 use Rattle.model.proofs.Sums.{sum-bound}
-use Rattle.model.proofs.Balance.{balance, balance-from}
 use Rattle.model.proofs.Reports.{steps-accepted}
 use Rattle.log.specs.Lines.{stepWords, setDigits, aNumber, readStep}
 use Rattle.log.proofs.Words.{nine, nine-words}
 use Rattle.log.proofs.Shapes.{either, Shapes, shaped}
-use Rattle.tally.specs.Tallies.{keepsOne}
+use Rattle.saved.specs.Rows.{beginsRow}
+use Rattle.entries.specs.Entries.{rowState, rowNumber, rowRefusal, entryBy, entriesIn, sets}
+use Rattle.entries.proofs.Owning.{RowLaws}
+use Rattle.tally.specs.Tallies.{noTally, keepsOne, linesOf}
 use Rattle.report.specs.Rows.{numbersText, lineText, sumWord, keptText, rowsText, sumNumbers, sumText}
-use Rattle.judging.specs.Report.{linesIn, logText, surely}
+use Rattle.judging.specs.Report.{logText, surely}
 use Rattle.tally.specs.declared.Tally.{Tally}
-use Rattle.judging.proofs.Telling.{sumAfter, tell, kept-more, verdictText, rows-more}
+use Rattle.judging.proofs.Telling.{sumAfter, startAt, tallyAt, tell, kept-more, verdictText, rows-more, row-entry, log-text}
 use Rattle.report.proofs.Lines.{line-length, numbers-most, head-length}
 
 -- a row's numbers are small enough for 75 bytes
@@ -156,8 +159,8 @@ abbrev taken : Table → State → List Step → ℕ
 taken K s xs = 39 * openedIn xs + 5 * (length (keptIn K s xs) + droppedIn K s xs)
 
 -- the accepted steps of a log take no more bytes than it has
-steps-cost : (K : Table) (ps : List (List ℕ)) (s : State) → taken K s (stepsOf K s (linesIn ps)) ≤ length (joinOn 10 ps)
-unfolding linesIn stepsOf openedIn keptIn droppedIn
+steps-cost : (K : Table) (ps : List (List ℕ)) (s : State) → taken K s (stepsOf K s (entriesIn K ps)) ≤ length (joinOn 10 ps)
+unfolding entriesIn entryBy stepsOf openedIn keptIn droppedIn
 steps-cost K [] s = omega arith
 steps-cost K ([] ∷ []) s = omega arith
 steps-cost K ((b ∷ p) ∷ []) s = omega arith
@@ -167,22 +170,79 @@ steps-cost K (p ∷ q ∷ ps) s = rw length-append (go (readStep setDigits p) re
         → taken K s (x ∷ xs) ≤ length p + length (10 ∷ joinOn 10 (q ∷ ps))
     more x xs h l = omega (arith, kept-more (verdict K s x) 0 (keptIn K (next K s x) xs), closes-one (verdict K s x), ap one (verdict-at-fm K s x))
 
-    go : (l : Line) → readStep setDigits p ≡ l → ((w : State) → taken K w (stepsOf K w (linesIn (q ∷ ps))) ≤ length (joinOn 10 (q ∷ ps)))
-        → taken K s (stepsOf K s (l ∷ linesIn (q ∷ ps))) ≤ length p + length (10 ∷ joinOn 10 (q ∷ ps))
-    go Bad e f = omega arith
+    go : (l : Line) → readStep setDigits p ≡ l → ((w : State) → taken K w (stepsOf K w (entriesIn K (q ∷ ps))) ≤ length (joinOn 10 (q ∷ ps)))
+        → taken K s (stepsOf K s (entryBy K p l ∷ entriesIn K (q ∷ ps))) ≤ length p + length (10 ∷ joinOn 10 (q ∷ ps))
+    go Bad e f =
+        cases (beginsRow p)
+        (λ b. rw b (cases (accepted (rowRefusal K s p)) (λ a. rw a (omega (arith, f s))) (λ a. rw a (omega arith))))
+        (λ b. rw b (omega arith))
     go (Is x) e f =
         cases (accepted (refusal K s x))
-        (λ a. rw a (more x (stepsOf K (next K s x) (linesIn (q ∷ ps))) (shaped costs x p e) (f (next K s x))))
+        (λ a. rw a (more x (stepsOf K (next K s x) (entriesIn K (q ∷ ps))) (shaped costs x p e) (f (next K s x))))
         (λ a. rw a (omega arith))
 
--- a cycle that is kept takes 44 bytes of the log at least, but for the cycles that are open where it begins: their `sm` stands before it
-kept-cost : (K : Table) (s : State) (log : List ℕ) (begun end : ℕ)
-    → openedIn (stepsOf K s (linesIn (splitOn 10 log))) + begun ≡ length (keptIn K s (stepsOf K s (linesIn (splitOn 10 log)))) + droppedIn K s (stepsOf K s (linesIn (splitOn 10 log))) + end
-    → 44 * length (keptIn K s (stepsOf K s (linesIn (splitOn 10 log)))) ≤ length log + 39 * begun
-kept-cost K s log begun end e = let h = steps-cost K (splitOn 10 log) s in omega (arith, ap length (join-split 10 log))
+-- the steps told of a log, from a state and a tally on
+abbrev stepsAt : Table → State → Tally → List (List ℕ) → List Step
+stepsAt K s c ps = stepsOf K (startAt K s c ps) (entriesIn K ps)
+
+module _ (K : Table) (R : RowLaws K) where
+  -- the tests of a row that sets the state
+  set-by : (c : Tally) (p : List ℕ) → eqb (linesOf c) 0 and sets K p ≡ true → (beginsRow p ≡ true) × (accepted (rowNumber K p) ≡ true)
+  set-by c p e =
+      let t = and-both (beginsRow p) _ (and-r (eqb (linesOf c) 0) _ (true-T _ e)) in
+      (T-true _ (t .0), T-true _ (t .1))
+
+  -- a log is told from a sound state on: from the one before, or from the one that its first row sets
+  pub start-sound-at : (s : State) → Sound K s → (c : Tally) (ps : List (List ℕ)) → Sound K (startAt K s c ps)
+  start-sound-at s S c [] = S
+  start-sound-at s S c (p ∷ []) = S
+  start-sound-at s S c (p ∷ q ∷ ps) = cases (eqb (linesOf c) 0 and sets K p) (λ e. rw e (R .sound p (set-by c p e .1))) (λ e. rw e S)
+
+  -- that row takes 39 bytes for each task that manages in it
+  row-cost : (p q : List ℕ) (ps : List (List ℕ)) → beginsRow p ≡ true → accepted (rowNumber K p) ≡ true
+      → 39 * managing K (rowState K p) + taken K (rowState K p) (stepsOf K (rowState K p) (entriesIn K (p ∷ q ∷ ps))) ≤ length (joinOn 10 (p ∷ q ∷ ps))
+  unfolding stepsOf
+  row-cost p q ps b a =
+      let z = rowState K p in
+      let e : stepsOf K z (entriesIn K (p ∷ q ∷ ps)) ≡ stepsOf K z (entriesIn K (q ∷ ps)) = ap (stepsOf K z) (row-entry K p q ps (R .noStep p b) b) ∙ rw (R .own p a) in
+      rw e (omega (arith, steps-cost K (q ∷ ps) z, R .wide p a, length-append p (10 ∷ joinOn 10 (q ∷ ps))))
+
+  -- so a log's bytes pay for its steps and for the tasks that manage where it begins, but for those that managed before it: their `sm` stands
+  -- before it
+  log-cost : (s : State) (c : Tally) (ps : List (List ℕ))
+      → 39 * managing K (startAt K s c ps) + taken K (startAt K s c ps) (stepsAt K s c ps) ≤ length (joinOn 10 ps) + 39 * managing K s
+  log-cost s c [] = omega (arith, steps-cost K [] s)
+  log-cost s c (p ∷ []) = omega (arith, steps-cost K (p ∷ []) s)
+  log-cost s c (p ∷ q ∷ ps) =
+      cases (eqb (linesOf c) 0 and sets K p)
+      (λ e. let t = set-by c p e in rw e (omega (arith, row-cost p q ps (t .0) (t .1))))
+      (λ e. rw e (omega (arith, steps-cost K (p ∷ q ∷ ps) s)))
 
 -- what is told of a log from a sound state on: 193 bytes at most and 75 for each kept cycle
-module _ (K : Table) (wf : T (wellformed K)) (s : State) (S : Sound K s) (c : Tally) (log : List ℕ) where
+module _ (K : Table) (wf : T (wellformed K)) (R : RowLaws K) (s : State) (S : Sound K s) (c : Tally) (log : List ℕ) where
+  abbrev rowsAt : List KeptRow
+  rowsAt = keptIn K (startAt K s c (splitOn 10 log)) (stepsAt K s c (splitOn 10 log))
+
+  tell-length : length (tell K s c (splitOn 10 log)) ≤ 193 + 75 * length rowsAt
+  unfolding tell
+  tell-length =
+      let ps = splitOn 10 log in
+      let z = startAt K s c ps in
+      let es = entriesIn K ps in
+      let xs = stepsOf K z es in
+      let rows = rows-length K (formed K wf) xs z (start-sound-at K R s S c ps) (steps-accepted K z es) in
+      let sum = sum-length (sumAfter K z (tallyAt K c ps) xs (linesDone K z es) (stopOn K z es)) in
+      simp length-append (omega arith)
+
+  -- a kept cycle takes 44 bytes of the log at least, but for the cycles that are open before it
+  kept-cost : 44 * length rowsAt ≤ length log + 39 * managing K s
+  kept-cost =
+      let ps = splitOn 10 log in
+      let z = startAt K s c ps in
+      let es = entriesIn K ps in
+      let b = balance-from K (formed K wf) (stepsOf K z es) z (start-sound-at K R s S c ps) (steps-accepted K z es) in
+      omega (arith, log-cost K R s c ps, ap length (join-split 10 log))
+
   few-managing : managing K s ≤ mostTasks
   unfolding managing
   few-managing = omega (arith, sum-bound (K .ntasks) 1 (λ t. one (taskAt s t .managing)) (λ t h. one-most (taskAt s t .managing)), formed K wf .fits .0)
@@ -192,33 +252,15 @@ module _ (K : Table) (wf : T (wellformed K)) (s : State) (S : Sound K s) (c : Ta
       one-most false = omega arith
 
   pub tell-bound : length (tell K s c (splitOn 10 log)) ≤ 193 + 75 * ((length log + 624) / 44)
-  unfolding tell
-  tell-bound =
-      let ls = linesIn (splitOn 10 log) in
-      let xs = stepsOf K s ls in
-      let rows = rows-length K (formed K wf) xs s S (steps-accepted K s ls) in
-      let sum = sum-length (sumAfter K s c xs (stopOn K s ls)) in
-      let cost = kept-cost K s log (managing K s) _ (balance-from K (formed K wf) xs s S (steps-accepted K s ls)) in
-      simp length-append (omega (arith, few-managing))
+  tell-bound = omega (arith, tell-length, kept-cost, few-managing)
 
-module _ (K : Table) (wf : T (wellformed K)) (log : List ℕ) where
-  -- a kept cycle takes 44 bytes of the log at least
-  pub kept-bound : 44 * length (keptIn K fresh (stepsOf K fresh (linesIn (splitOn 10 log)))) ≤ length log
-  kept-bound =
-      let ls = linesIn (splitOn 10 log) in
-      let xs = stepsOf K fresh ls in
-      let b = balance K wf xs (steps-accepted K fresh ls) in
-      omega (arith, kept-cost K fresh log 0 (managing K (reached K fresh xs)) (omega arith))
-
-  -- the report has 202 bytes at most and 75 for each kept cycle
+module _ (K : Table) (wf : T (wellformed K)) (R : RowLaws K) (log : List ℕ) where
+  -- the report has 202 bytes at most and 75 for each kept cycle, which takes 44 bytes of the log at least
   pub text-bound : length (logText K log) ≤ 202 + 75 * (length log / 44)
-  unfolding logText report
   text-bound =
-      let ls = linesIn (splitOn 10 log) in
-      let xs = stepsOf K fresh ls in
-      let rows = rows-length K (formed K wf) xs fresh (start-sound K) (steps-accepted K fresh ls) in
-      let sum = sum-length (reportOf K fresh xs (stopOn K fresh ls) .sum) in
-      simp length-append (omega (arith, kept-bound, head-length))
+      let told = tell-length K wf R fresh (start-sound K) noTally log in
+      let cost = kept-cost K wf R fresh (start-sound K) noTally log in
+      rw (log-text K log) (simp length-append (omega (arith, head-length, fresh-managing K)))
 
   -- a buffer that surely holds a report holds it
   pub surely-holds : (room : ℕ) → T (surely room (length log)) → length (logText K log) ≤ room

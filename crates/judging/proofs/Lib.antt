@@ -2,6 +2,7 @@ pub mod Telling
 pub mod Accounts
 pub mod Bounds
 pub mod Mission
+pub mod Noon
 pub mod Chunks
 pub mod Reporting
 pub mod Unique

@@ -14,8 +14,10 @@ use Rattle.model.specs.States.{clear}
 use Rattle.model.specs.Rules.{anew, first, within, noneIn, urgentTask, urgentAct, urgent, roomFor, refusal, next}
 use Rattle.model.specs.Logs.{allAccepted, reached, most}
 use Rattle.model.specs.Cases.{tableK, tableM, benchCases, holdsIn, allHold, pastToo, benchHolds, sameRows}
-use Rattle.model.specs.Cycles.{verdict, openedIn, keptIn, droppedIn, managing, stepsOf, stopOn, report}
+use Rattle.model.specs.Cycles.{verdict, openedIn, keptIn, droppedIn, managing, stepsOf, linesDone, stopOn, report}
 use Rattle.log.specs.Lines.{stepWords, readStep}
+use Rattle.saved.specs.Rows.{stateWord, beginsRow}
+use Rattle.entries.specs.Entries.{entryBy, entriesIn, startOf}
 use Rattle.row.specs.Kinds.{fieldsOf, mostOf, formOf, kindIn, kindWords, modeWords}
 use Rattle.row.specs.Row.{readForm, readRow}
 use Rattle.stream.specs.Cut.{endIn, cutOf}
@@ -23,7 +25,7 @@ use Rattle.report.specs.Rows.{numbersText, lineText, rowsText}
 use Rattle.table.specs.Tables.{baseOf, narrowed, widened, shown, fieldOf, addRow, tableOf}
 use Rattle.table.specs.Checks.{inPlace, faultAt, kindFault, rowFault}
 use Rattle.table.specs.Texts.{faultBehind, readLines, readTable}
-use Rattle.judging.specs.Report.{linesIn, logText, reportOn, inputReport}
+use Rattle.judging.specs.Report.{logText, reportOn, inputReport}
 use Rattle.judging.specs.Printed.{textK, printedLog, printedReport, textM}
 
 -- reading the printed texts gives the tables of the bench cases
@@ -42,5 +44,5 @@ bench-read = refl
 
 -- K's table and log, as they are printed, give the report that is printed
 pub K-printed : inputReport (textK ++ printedLog) ≡ printedReport
-unfolding cutOf endIn textK printedLog printedReport reportOn logText linesIn report stepsOf stopOn verdict openedIn keptIn droppedIn managing sum most reached refusal next anew first within member eachOf bit noneIn urgentTask urgentAct urgent roomFor each some clear safe hasEdge edgeIs readTable readLines faultBehind inPlace faultAt kindFault rowFault lastFault baseOf narrowed widened shown fieldOf addRow tableOf readForm readRow kindIn fieldsOf mostOf formOf kindWords modeWords valueOf readNumber wordIn etherWord stepWords readStep readSet numbersText lineText rowsText digits widthOf
+unfolding cutOf endIn textK printedLog printedReport reportOn logText startOf entriesIn entryBy beginsRow stateWord report stepsOf linesDone stopOn verdict openedIn keptIn droppedIn managing sum most reached refusal next anew first within member eachOf bit noneIn urgentTask urgentAct urgent roomFor each some clear safe hasEdge edgeIs readTable readLines faultBehind inPlace faultAt kindFault rowFault lastFault baseOf narrowed widened shown fieldOf addRow tableOf readForm readRow kindIn fieldsOf mostOf formOf kindWords modeWords valueOf readNumber wordIn etherWord stepWords readStep readSet numbersText lineText rowsText digits widthOf
 K-printed = refl

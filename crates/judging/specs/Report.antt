@@ -7,11 +7,8 @@ use lib.Dec.{leb}
 use Rattle.text.specs.Parts.{splitOn}
 use Rattle.model.specs.Tests.{_and_}
 use Rattle.model.specs.Cycles.{Report, report, refusedReport}
-use Rattle.model.specs.States.{fresh}
 use Rattle.model.specs.Tables.{Table}
-use Rattle.model.specs.declared.Line.{Line}
-use Rattle.model.specs.declared.Line.the-variants.{Bad}
-use Rattle.log.specs.Lines.{setDigits, readStep}
+use Rattle.entries.specs.Entries.{entriesIn, startOf}
 use Rattle.table.specs.Checks.{Said}
 use Rattle.table.specs.Tables.{tableOf}
 use Rattle.table.specs.Texts.{readTable}
@@ -21,23 +18,12 @@ use Rattle.report.specs.Rows.{headText, rowsText, sumText}
 use Rattle.engine.specs.declared.Stop.{Stop}
 use Rattle.engine.specs.declared.Stop.the-variants as stop
 
--- what stands behind the last newline: nothing is no line, anything else is a line without newline
-abbrev pub endLine : List ℕ → List Line
-endLine [] = []
-endLine (b ∷ p) = Bad ∷ []
-
--- what the lines of a log say, parted at its newlines
-unfoldable pub linesIn : List (List ℕ) → List Line
-linesIn [] = []
-linesIn (p ∷ []) = endLine p
-linesIn (p ∷ q ∷ ps) = readStep setDigits p ∷ linesIn (q ∷ ps)
-
 abbrev pub reportText : Report → List ℕ
 reportText r = headText ++ (rowsText (r .kept) ++ sumText (r .sum))
 
--- the report on a log, from the fresh state on
+-- the report on a log, from the state that it begins with
 unfoldable pub logText : Table → List ℕ → List ℕ
-logText K log = reportText (report K fresh (linesIn (splitOn 10 log)))
+logText K log = reportText (report K (startOf K (splitOn 10 log)) (entriesIn K (splitOn 10 log)))
 
 -- "A refused table gives `cycles 1` and a `sum` row of zeros but for the last two numbers."
 abbrev pub answerText : rows.Table → List ℕ → List ℕ → List ℕ
@@ -60,6 +46,7 @@ abbrev pub refusalOf : Stop → ℕ
 refusalOf stop.End = 0
 refusalOf (stop.Refused n) = n
 refusalOf (stop.Closed k) = 0
+refusalOf stop.Row = 0
 
 -- a buffer surely holds the report on a log of so many bytes: a closed cycle has an `sm` and an `fm` line of its own, 44 bytes at least, and
 -- at most one row, of 75 bytes at most; the header and the `sum` row take 202 bytes at most

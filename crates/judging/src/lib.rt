@@ -8,7 +8,7 @@ ghost use Rattle.model.specs.Cycles.{refusedReport};
 ghost use Rattle.prepared.specs.Prepared.{tableIn, Prepared};
 ghost use Rattle.table.specs.Checks.{Passes};
 ghost use Rattle.table.specs.Tables.{tableOf};
-ghost use Rattle.tally.specs.Tallies.{mostCount, sumOf};
+ghost use Rattle.tally.specs.Tallies.{mostCount, linesOf, sumOf};
 ghost use Rattle.report.specs.Rows.{sumNumbers, sumText};
 ghost use Rattle.judging.specs.Report.{reportText, logText, reportOn, refusalOf, surely};
 use engine::Going;
@@ -32,7 +32,7 @@ const CYCLE_LINES: usize = 44;
 
 // The numbers of the `sum` row of what a run came to.
 fn end_numbers(rows: &[u32], index: &[u32], g: Going, refusal: u64) -> [u64; 9]
-    requires { ⌜ Prepared (now rows) (now index) × (g .tally .steps ≤ mostCount) ⌝ }
+    requires { ⌜ Prepared (now rows) (now index) × (linesOf (g .tally) ≤ mostCount) ⌝ }
     ensures { λ r. ⌜ r ≡ sumNumbers (sumOf (tableIn (now (rows .entry)) (now (index .entry))) (g .state) (g .tally) refusal) ⌝ }
 {
     tally::sum_numbers(rows, index, g.state, g.tally, refusal)
@@ -47,7 +47,7 @@ pub fn put_sum(
     g: Going,
     refusal: u64,
 ) -> usize
-    requires { ⌜ Prepared (now rows) (now index) × (g .tally .steps ≤ mostCount) ⌝ }
+    requires { ⌜ Prepared (now rows) (now index) × (linesOf (g .tally) ≤ mostCount) ⌝ }
     ensures { λ r. ⌜ Put (now (buf .entry)) at (sumText (sumOf (tableIn (now (rows .entry)) (now (index .entry))) (g .state) (g .tally) refusal)) r (now (buf .exit)) ⌝ }
 {
     let numbers = end_numbers(rows, index, g, refusal);
@@ -90,7 +90,7 @@ fn does_fit(rows: &[u32], index: &[u32], log: &[u8], room: usize) -> bool
     let mut filled = 0;
     let mut width = HEAD;
     loop {
-        let r = engine::run(rows, index, log, at, g, &mut scratch, filled);
+        let r = playing::play(rows, index, log, at, g, &mut scratch, filled);
         g = r.going;
         at = r.at;
         let more = r.filled;
@@ -115,6 +115,7 @@ pub fn refusal_of(stop: Stop) -> u64
         Stop::End => 0,
         Stop::Refused(n) => n,
         Stop::Closed(_) => 0,
+        Stop::Row => 0,
     }
 }
 
@@ -125,7 +126,7 @@ fn write_report(rows: &[u32], index: &[u32], log: &[u8], report: &mut [u8]) -> u
 {
     let at = report::put_head(report);
     let g = engine::fresh_going();
-    let told = engine::run(rows, index, log, 0, g, report, at);
+    let told = playing::play(rows, index, log, 0, g, report, at);
     let end = told.going;
     let filled = told.filled;
     let stop = told.stop;

@@ -27,6 +27,10 @@ use Rattle.model.specs.declared.Line.the-variants.{Is, Bad}
 abbrev pub longestLine : ℕ
 longestLine = 63
 
+-- "a `state` row, one line of at most 4,095 bytes" (document 02), its newline with it: no line of a log is longer
+abbrev pub longestRow : ℕ
+longestRow = 4095
+
 -- `wait`, `st`, `sm`, `lm`, `ia`, `ea`, `cx`, `fa`, `fm`
 unfoldable pub stepWords : List ℕ
 stepWords = 119 ∷ 97 ∷ 105 ∷ 116 ∷ 9 ∷ 115 ∷ 116 ∷ 9 ∷ 115 ∷ 109 ∷ 9 ∷ 108 ∷ 109 ∷ 9 ∷ 105 ∷ 97 ∷ 9 ∷ 101 ∷ 97 ∷ 9 ∷ 99 ∷ 120 ∷ 9 ∷ 102 ∷ 97 ∷ 9 ∷ 102 ∷ 109 ∷ []

@@ -20,8 +20,11 @@ use text::Number;
 use text::SetField;
 use text::Word;
 
-// The longest line, with its newline.
-pub const LONGEST_LINE: usize = 63;
+// The longest line of a step, with its newline.
+const LONGEST_LINE: usize = 63;
+
+// The longest line of a log, a `state` row, with its newline.
+pub const LONGEST_ROW: usize = 4095;
 
 // How many digits a set has. The readers take the number; whoever reads a line gives it.
 pub const SET_DIGITS: usize = 16;

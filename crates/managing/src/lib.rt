@@ -54,7 +54,7 @@ pub fn is_empty_for(rows: &[u32], index: &[u32], listed: &[usize], t: usize, k: 
 }
 
 // Is a set within a task? Its activities stand together.
-fn is_within(rows: &[u32], index: &[u32], t: usize, n: Set) -> bool
+pub fn is_within(rows: &[u32], index: &[u32], t: usize, n: Set) -> bool
     requires { ⌜ Prepared (now rows) (now index) × (t < tableIn (now rows) (now index) .ntasks) ⌝ }
     ensures { λ r. ⌜ r ≡ within (tableIn (now (rows .entry)) (now (index .entry))) t n ⌝ }
 {

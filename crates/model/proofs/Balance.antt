@@ -94,7 +94,7 @@ balance-from K F (x ∷ xs) s S ok =
     omega (arith, step-balance K F s S x acc, one-more (verdict K s x) (keptIn K s′ xs), ap one (verdict-at-fm K s x))
 
 -- no task manages in the fresh state
-fresh-managing : (K : Table) → managing K fresh ≡ 0
+pub fresh-managing : (K : Table) → managing K fresh ≡ 0
 unfolding managing
 fresh-managing K = omega (arith, sum-bound (K .ntasks) 0 (λ t. one (taskAt fresh t .managing)) (λ t h. rw (fresh-task t) zero-le))
 

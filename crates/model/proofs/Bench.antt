@@ -8,7 +8,7 @@ use Rattle.model.specs.Rows.{lastFault, wellformed}
 use Rattle.model.specs.States.{clear, fresh}
 use Rattle.model.specs.Rules.{anew, first, within, noneIn, urgentTask, urgentAct, urgent, roomFor, refusal, next}
 use Rattle.model.specs.Logs.{allAccepted, reached, most}
-use Rattle.model.specs.Cycles.{verdict, openedIn, keptIn, droppedIn, managing, stepsOf, stopOn, linesOf, report}
+use Rattle.model.specs.Cycles.{verdict, openedIn, keptIn, droppedIn, managing, stepsOf, linesDone, stopOn, linesOf, report}
 use Rattle.model.specs.Cases.{oneTask, tableK, tableM, benchCases, holdsIn, allHold, pastToo, benchHolds, logK, reportK}
 
 -- both tables are well formed
@@ -27,10 +27,10 @@ bench = refl
 
 -- K's whole log is accepted, and its report is the one that the page prints; `most` is 11
 pub K-report : report tableK fresh (linesOf logK) ≡ reportK
-unfolding linesOf report reportK logK tableK stepsOf stopOn verdict openedIn keptIn droppedIn managing sum most reached refusal next anew first within member eachOf bit noneIn urgentTask urgentAct urgent roomFor each some clear safe hasEdge edgeIs
+unfolding linesOf report reportK logK tableK stepsOf linesDone stopOn verdict openedIn keptIn droppedIn managing sum most reached refusal next anew first within member eachOf bit noneIn urgentTask urgentAct urgent roomFor each some clear safe hasEdge edgeIs
 K-report = refl
 
 -- and so with a keep of 25, though the first cycle takes 20: it runs through one signal
 pub late-report : report (oneTask 25) fresh (linesOf logK) ≡ reportK
-unfolding linesOf report reportK logK stepsOf stopOn verdict openedIn keptIn droppedIn managing sum most reached refusal next anew first within member eachOf bit noneIn urgentTask urgentAct urgent roomFor each some clear safe hasEdge edgeIs
+unfolding linesOf report reportK logK stepsOf linesDone stopOn verdict openedIn keptIn droppedIn managing sum most reached refusal next anew first within member eachOf bit noneIn urgentTask urgentAct urgent roomFor each some clear safe hasEdge edgeIs
 late-report = refl

@@ -17,4 +17,5 @@ pub mod Verdicts
 pub mod Signals
 pub mod Balance
 pub mod Reports
+pub mod Cuts
 pub mod Bench

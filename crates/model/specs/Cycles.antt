@@ -7,15 +7,13 @@ use lib.Dec.{leb, eqb}
 use Rattle.model.specs.Tests.{_and_, _or_, one, sum, accepted}
 use Rattle.model.specs.Tables.{Table}
 use Rattle.model.specs.States.{taskAt}
-use Rattle.model.specs.Rules.{refusal, lineRefusal, next}
+use Rattle.model.specs.Rules.{refusal, next}
 use Rattle.model.specs.Logs.{reached, most}
 use Rattle.model.specs.declared.Task.{Task}
 use Rattle.model.specs.declared.State.{State}
 use Rattle.model.specs.declared.TaskStep.the-variants.{St, Fm}
 use Rattle.model.specs.declared.Step.{Step}
 use Rattle.model.specs.declared.Step.the-variants.{Wait, Sm, OfTask, OfAct}
-use Rattle.model.specs.declared.Line.{Line}
-use Rattle.model.specs.declared.Line.the-variants as line
 
 -- "a `kept` row for each kept cycle as it closes (task, cycle number, open date, close date, missed, longest)"
 pub record KeptRow : Type 0 where
@@ -126,21 +124,47 @@ droppedIn K s (x ∷ xs) = drops (verdict K s x) + droppedIn K (next K s x) xs
 unfoldable pub managing : Table → State → ℕ
 managing K s = sum (K .ntasks) (λ t. one (taskAt s t .managing))
 
--- "The first refusal ends the judging.": the steps accepted before it, and its number, 0 where there is none
-unfoldable pub stepsOf : Table → State → List Line → List Step
+-- What a line of a log says: a step; a `state` row, by the refusal that it gets in each state; or neither. A row "is a line but no step": it
+-- changes no state, and 11 is the refusal of a line that says neither.
+pub data Entry : Type 0 where
+  step : Step → Entry
+  row : (State → ℕ) → Entry
+  neither : Entry
+
+unfoldable pub entryRefusal : Table → State → Entry → ℕ
+entryRefusal K s (step x) = refusal K s x
+entryRefusal K s (row f) = f s
+entryRefusal K s neither = 11
+
+-- "The first refusal ends the judging.": the steps accepted before it, how many lines that were, and its number, 0 where there is none
+unfoldable pub stepsOf : Table → State → List Entry → List Step
 stepsOf K s [] = []
-stepsOf K s (line.Bad ∷ ls) = []
-stepsOf K s (line.Is x ∷ ls) = cond (accepted (refusal K s x)) (x ∷ stepsOf K (next K s x) ls) []
+stepsOf K s (step x ∷ es) = cond (accepted (refusal K s x)) (x ∷ stepsOf K (next K s x) es) []
+stepsOf K s (row f ∷ es) = cond (accepted (f s)) (stepsOf K s es) []
+stepsOf K s (neither ∷ es) = []
 
-unfoldable pub stopOn : Table → State → List Line → ℕ
+unfoldable pub linesDone : Table → State → List Entry → ℕ
+linesDone K s [] = 0
+linesDone K s (step x ∷ es) = cond (accepted (refusal K s x)) (suc (linesDone K (next K s x) es)) 0
+linesDone K s (row f ∷ es) = cond (accepted (f s)) (suc (linesDone K s es)) 0
+linesDone K s (neither ∷ es) = 0
+
+unfoldable pub stopOn : Table → State → List Entry → ℕ
 stopOn K s [] = 0
-stopOn K s (line.Bad ∷ ls) = lineRefusal K s line.Bad
-stopOn K s (line.Is x ∷ ls) = cond (accepted (refusal K s x)) (stopOn K (next K s x) ls) (refusal K s x)
+stopOn K s (step x ∷ es) = cond (accepted (refusal K s x)) (stopOn K (next K s x) es) (refusal K s x)
+stopOn K s (row f ∷ es) = cond (accepted (f s)) (stopOn K s es) (f s)
+stopOn K s (neither ∷ es) = 11
 
--- the lines that say these steps
-unfoldable pub linesOf : List Step → List Line
+-- the steps that these lines say, and the lines that say these steps
+unfoldable pub stepsIn : List Entry → List Step
+stepsIn [] = []
+stepsIn (step x ∷ es) = x ∷ stepsIn es
+stepsIn (row f ∷ es) = stepsIn es
+stepsIn (neither ∷ es) = stepsIn es
+
+unfoldable pub linesOf : List Step → List Entry
 linesOf [] = []
-linesOf (x ∷ xs) = line.Is x ∷ linesOf xs
+linesOf (x ∷ xs) = step x ∷ linesOf xs
 
 -- "a `sum` row (accepted steps, date, opened, kept, dropped, managing, most steps other than waits between two neighbouring waits or at
 -- either end of the log, refusal, its line)"
@@ -164,25 +188,27 @@ abbrev pub lineOf : ℕ → ℕ → ℕ
 lineOf zero n = 0
 lineOf (suc r) n = n + 1
 
-abbrev pub reportOf : Table → State → List Step → ℕ → Report
-reportOf K s xs r = record {
+-- the report on the steps accepted from a state, with the refusal behind them and the lines before it: "managing tasks at the start count as
+-- opened"
+abbrev pub reportOf : Table → State → List Step → ℕ → ℕ → Report
+reportOf K s xs r n = record {
   kept = keptIn K s xs;
   sum = record {
     steps = length xs;
     date = reached K s xs .date;
-    opened = openedIn xs;
+    opened = managing K s + openedIn xs;
     kept = length (keptIn K s xs);
     dropped = droppedIn K s xs;
     managing = managing K (reached K s xs);
     most = most 0 xs;
     refusal = r;
-    line = lineOf r (length xs);
+    line = lineOf r n;
   };
 }
 
 -- the report on a log, judged from a state
-unfoldable pub report : Table → State → List Line → Report
-report K s ls = reportOf K s (stepsOf K s ls) (stopOn K s ls)
+unfoldable pub report : Table → State → List Entry → Report
+report K s es = reportOf K s (stepsOf K s es) (stopOn K s es) (linesDone K s es)
 
 -- "A refused table gives `cycles 1` and a `sum` row of zeros but for the last two numbers."
 abbrev pub refusedReport : ℕ → ℕ → Report

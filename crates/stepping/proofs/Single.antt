@@ -31,12 +31,12 @@ use Rattle.log.proofs.Shapes.{no-step}
 use Rattle.report.specs.Rows.{cycleOf, cycleText}
 use Rattle.tally.specs.Tallies.{tallied, noTally, Roomy}
 use Rattle.engine.specs.Turns.{lineAt}
-use Rattle.engine.specs.Play.{Played, pieces, stopped, onVerdict, onStep, played, Runs}
+use Rattle.engine.specs.Play.{Played, pieces, stopped, onVerdict, onStep, paused, Pauses}
 use Rattle.engine.specs.Starts.{goingFrom}
 use Rattle.stepping.specs.Stepping.{lineStepped, stepped}
 use Rattle.tally.specs.declared.Tally.{Tally}
 use Rattle.engine.specs.declared.Stop.{Stop}
-use Rattle.engine.specs.declared.Stop.the-variants.{End, Refused, Closed}
+use Rattle.engine.specs.declared.Stop.the-variants.{End, Refused, Closed, Row}
 use Rattle.engine.specs.declared.Going.{Going}
 use Rattle.engine.specs.declared.Ran.{Ran}
 use Rattle.stepping.specs.declared.Stepped.{Stepped}
@@ -49,15 +49,17 @@ abbrev answerOn : Stop → State → State → Stepped
 answerOn End s w = record { number = 0; state = w }
 answerOn (Refused n) s w = record { number = n; state = s }
 answerOn (Closed c) s w = record { number = 0; state = w }
+answerOn Row s w = record { number = 0; state = w }
 
 abbrev answerOf : State → Played → Stepped
 answerOf s p = answerOn (p .stop) s (p .state)
 
 -- every stop but a refusal
-goes-on : (w : Stop) → OneOf (0 ∷ 2 ∷ []) (tagOf the-type w) → (s u : State) → record { number = 0; state = u } ≡ answerOn w s u
+goes-on : (w : Stop) → OneOf (0 ∷ 2 ∷ 3 ∷ []) (tagOf the-type w) → (s u : State) → record { number = 0; state = u } ≡ answerOn w s u
 goes-on End h s u = refl
-goes-on (Refused n) h s u = absurd (miss (0 ∷ 2 ∷ []) 1 tt h)
+goes-on (Refused n) h s u = absurd (miss (0 ∷ 2 ∷ 3 ∷ []) 1 tt h)
 goes-on (Closed c) h s u = refl
+goes-on Row h s u = refl
 
 -- a step that is accepted, whatever its verdict and whether the row of a kept cycle has room
 on-verdict : (v : Verdict) (s w : State) (c : Tally) (room : ℕ) (rest : List (List ℕ)) (go : ℕ → Played) → ((n : ℕ) → go n ≡ stopped w c End rest)
@@ -81,7 +83,7 @@ module _ (K : Table) (s : State) (c : Tally) (room : ℕ) (x : Step) where
       (λ h. rw h)
 
   -- a line that reads as a step is the only one
-  one-line : (l : List ℕ) → readLine setDigits l ≡ Is x → answerOf s (played K s c room (pieces l 0)) ≡ lineStepped K s (Is x)
+  one-line : (l : List ℕ) → readLine setDigits l ≡ Is x → answerOf s (paused K s c room (pieces l 0)) ≡ lineStepped K s (Is x)
   unfolding readLine
   one-line l h =
       let t = picked (eqb (firstAt l 0 10 + 1) (length l)) no-step h in
@@ -101,14 +103,14 @@ module _ (K : Table) (s : State) (l : List ℕ) (y : Line) (e : y ≡ readLine s
   pub line-bad : y ≡ Bad → record { number = 11; state = s } ≡ lineStepped K s (readLine setDigits l)
   line-bad h = rw (← e, h)
 
-  module _ (x : Step) (h : y ≡ Is x) (g : Going) (f : g ≡ goingFrom s) (buf : List ℕ) (place : ℕ) (r : Ran) (after : List ℕ) (R : Runs K l 0 g buf place r after) where
+  module _ (x : Step) (h : y ≡ Is x) (g : Going) (f : g ≡ goingFrom s) (buf : List ℕ) (place : ℕ) (r : Ran) (after : List ℕ) (R : Pauses K l 0 g buf place r after) where
     ran : answerOn (r .stop) s (r .going .state) ≡ lineStepped K s (readLine setDigits l)
-    ran = ap (answerOf s) (R .played) ∙ rw (f, ← e, h) (one-line K s noTally (length buf - place) x l (sym e ∙ h))
+    ran = ap (answerOf s) (R .paused) ∙ rw (f, ← e, h) (one-line K s noTally (length buf - place) x l (sym e ∙ h))
 
     pub line-refused : (n : ℕ) → r .stop ≡ Refused n → record { number = n; state = s } ≡ lineStepped K s (readLine setDigits l)
     line-refused n p = rw p at ran
 
-    pub line-accepted : OneOf (0 ∷ 2 ∷ []) (tagOf the-type (r .stop)) → record { number = 0; state = r .going .state } ≡ lineStepped K s (readLine setDigits l)
+    pub line-accepted : OneOf (0 ∷ 2 ∷ 3 ∷ []) (tagOf the-type (r .stop)) → record { number = 0; state = r .going .state } ≡ lineStepped K s (readLine setDigits l)
     line-accepted p = goes-on (r .stop) p s (r .going .state) ∙ ran
 
 -- and on a table and a state that may be refused

@@ -11,7 +11,7 @@ use lib.Dec.{eqb, ltb}
 use borrow.Author.Tests.{lt-ltb, le-ltb, ltb-true, ltb-false, eqb-true, eqb-false}
 use Rattle.text.specs.Parts.{splitOn}
 use Rattle.text.proofs.Picks.{cases}
-use Rattle.log.specs.Lines.{longestLine}
+use Rattle.log.specs.Lines.{longestRow}
 use Rattle.stream.specs.Chunk.{lastPart, linesEnd, wholeLines, chunkEnd}
 use Rattle.stream.proofs.Pieces.{last-newline, last-other}
 
@@ -59,18 +59,18 @@ module _ (s : List ℕ) (end : ℕ) (e : end ≡ linesEnd s) where
   lines-within = omega (arith, e)
 
   -- what follows the last newline may still become a line, or cannot
-  pub whole-short : length s - end < longestLine → end ≡ wholeLines s
+  pub whole-short : length s - end < longestRow → end ≡ wholeLines s
   unfolding wholeLines
-  whole-short h = let k : length s - linesEnd s < longestLine = rw e at h in rw (lt-ltb _ _ k) e
+  whole-short h = let k : length s - linesEnd s < longestRow = rw e at h in rw (lt-ltb _ _ k) e
 
-  pub whole-long : longestLine ≤ length s - end → length s ≡ wholeLines s
+  pub whole-long : longestRow ≤ length s - end → length s ≡ wholeLines s
   unfolding wholeLines
-  whole-long h = let k : longestLine ≤ length s - linesEnd s = rw e at h in rw (le-ltb _ _ k)
+  whole-long h = let k : longestRow ≤ length s - linesEnd s = rw e at h in rw (le-ltb _ _ k)
 
 -- whole lines end within what was read, and so does what is taken now
 whole-within : (s : List ℕ) → wholeLines s ≤ length s
 unfolding wholeLines
-whole-within s = cases (ltb (length s - linesEnd s) longestLine) (λ y. rw y (lines-within s (linesEnd s) refl)) (λ y. rw y (omega arith))
+whole-within s = cases (ltb (length s - linesEnd s) longestRow) (λ y. rw y (lines-within s (linesEnd s) refl)) (λ y. rw y (omega arith))
 
 pub chunk-within : (ended : Bool) (s : List ℕ) (r : ℕ) → r ≡ chunkEnd ended s → r ≤ length s
 chunk-within true s r e = omega arith
@@ -85,7 +85,7 @@ chunk-lines ended s r e q = rw e q
 
 -- no line of these pieces changes what it says, whatever follows: nothing stands behind the last newline, or what is too long for a line
 abbrev pub Settled : List (List ℕ) → Type 0
-Settled ps = (lastPart ps ≡ []) ⊎ (longestLine ≤ length (lastPart ps))
+Settled ps = (lastPart ps ≡ []) ⊎ (longestRow ≤ length (lastPart ps))
 
 -- up to and with the last newline of the first n bytes
 lines-front : (s : List ℕ) (n : ℕ) → n ≤ length s → lastPart (splitOn 10 (take (linesEnd (take n s)) s)) ≡ []
@@ -104,7 +104,7 @@ lines-front s (suc n) h =
     rw l (lines-front s n (omega arith)))
 
 -- what follows the last newline is what the last piece is
-last-long : (s : List ℕ) → longestLine ≤ length s - linesEnd s → longestLine ≤ length (lastPart (splitOn 10 s))
+last-long : (s : List ℕ) → longestRow ≤ length s - linesEnd s → longestRow ≤ length (lastPart (splitOn 10 s))
 unfolding linesEnd
 last-long s h = omega arith
 
@@ -112,13 +112,13 @@ last-long s h = omega arith
 pub whole-settled : (s : List ℕ) → Settled (splitOn 10 (take (wholeLines s) s))
 unfolding wholeLines
 whole-settled s =
-    cases (ltb (length s - linesEnd s) longestLine)
+    cases (ltb (length s - linesEnd s) longestRow)
     (λ y. rw y (inl (rw (take-length s) at (lines-front s (length s) (omega arith)))))
     (λ y. rw (y, take-length s) (inr (last-long s (ltb-false _ _ y))))
 
-pub rest-short : (s : List ℕ) → length (drop (wholeLines s) s) < longestLine
+pub rest-short : (s : List ℕ) → length (drop (wholeLines s) s) < longestRow
 unfolding wholeLines
 rest-short s =
-    cases (ltb (length s - linesEnd s) longestLine)
-    (λ y. rw y (omega (arith, ltb-true (length s - linesEnd s) longestLine y, length-drop (linesEnd s) s)))
+    cases (ltb (length s - linesEnd s) longestRow)
+    (λ y. rw y (omega (arith, ltb-true (length s - linesEnd s) longestRow y, length-drop (linesEnd s) s)))
     (λ y. rw y (omega (arith, length-drop (length s) s)))

@@ -79,7 +79,7 @@ fn whole_lines(s: &[u8]) -> usize
     ensures { λ r. ⌜ r ≡ wholeLines (now (s .entry)) ⌝ }
 {
     let end = lines_end(s);
-    if s.len() - end < log::LONGEST_LINE {
+    if s.len() - end < log::LONGEST_ROW {
         return end;
     }
     s.len()

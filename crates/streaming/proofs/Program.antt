@@ -5,10 +5,12 @@ use mathlib.Core.Bool.{Bool, true, false}
 use mathlib.Core.List.{List, [], _∷_, _++_, append-assoc, append-nil}
 use mathlib.Core.Path.{_≡_, refl, sym, ap, _∙_}
 use native.Mathlib.Omega.{arith}
+use lib.Dec.{T}
 use lib.ListN.{length, take, drop}
 use Rattle.text.specs.Parts.{pick}
 use Rattle.text.proofs.Picks.{false-true}
 use Rattle.model.specs.Tables.{Table}
+use Rattle.model.specs.Rows.{wellformed}
 use Rattle.model.specs.States.{fresh}
 use Rattle.table.specs.Tables.{tableOf}
 use Rattle.table.specs.Checks.{Said}

@@ -15,15 +15,16 @@ use Rattle.model.specs.States.{fresh}
 use Rattle.model.specs.declared.State.{State}
 use Rattle.model.proofs.Formed.{formed}
 use Rattle.model.proofs.Soundness.{Sound, start-sound}
-use Rattle.log.specs.Lines.{longestLine}
+use Rattle.log.specs.Lines.{longestRow}
+use Rattle.entries.proofs.Owning.{row-laws}
 use Rattle.table.specs.Tables.{tableOf}
 use Rattle.table.specs.Texts.{longest, readTable}
 use Rattle.report.specs.Rows.{headText}
 use Rattle.tally.specs.Tallies.{noTally}
 use Rattle.tally.specs.declared.Tally.{Tally}
-use Rattle.engine.specs.Play.{Played, isClosed}
+use Rattle.engine.specs.Play.{Played, isClosed, isRow}
 use Rattle.engine.specs.declared.Stop.{Stop}
-use Rattle.engine.specs.declared.Stop.the-variants.{End, Refused, Closed}
+use Rattle.engine.specs.declared.Stop.the-variants.{End, Refused, Closed, Row}
 use Rattle.stream.specs.Cut.{cutOf, cutKnown}
 use Rattle.stream.specs.Chunk.{chunkEnd}
 use Rattle.stream.proofs.Cuts.{cut-within, known-stays, unknown-few}
@@ -34,7 +35,7 @@ use Rattle.judging.proofs.Bounds.{tell-bound}
 use Rattle.judging.proofs.Chunks.{carries-end, carries-refused, carries-last, carries-room}
 use Rattle.judging.proofs.Mission.{fine-wellformed}
 use Rattle.streaming.specs.Turns.{Carried, atTable, atLog, over, Telling, taken, left, playedNow, isOver, onLog, onTable, onInput, turn, toldBy, joined, mostBlock, Short, mostTold}
-use Rattle.streaming.proofs.Leaving.{played-sound}
+use Rattle.streaming.proofs.Leaving.{played-sound, played-whole}
 
 -- what is still to be told, with these bytes to come
 abbrev pub owed : Carried → List ℕ → List ℕ
@@ -45,7 +46,7 @@ owed over rest = []
 -- what is carried is little: less than a table, or a sound state and less than a line
 abbrev pub Little : Carried → Type 0
 Little (atTable held) = length held ≤ longest
-Little (atLog K s c held) = T (wellformed K) × Sound K s × (length held < longestLine)
+Little (atLog K s c held) = T (wellformed K) × Sound K s × (length held < longestRow)
 Little over = Unit {0}
 
 -- a turn tells what was owed, up to what is owed then; once the input has ended nothing is
@@ -59,6 +60,7 @@ over-last : (w : Stop) → isOver true w ≡ true
 over-last End = refl
 over-last (Refused n) = refl
 over-last (Closed k) = refl
+over-last Row = refl
 
 module _ (room : ℕ) (ended : Bool) (rest : List ℕ) (o : ended ≡ true → rest ≡ []) where
   -- the bytes of a log at hand
@@ -71,8 +73,9 @@ module _ (room : ℕ) (ended : Bool) (rest : List ℕ) (o : ended ≡ true → r
     has-room End e = refl
     has-room (Refused n) e = refl
     has-room (Closed k) e =
-        let b = tell-bound K wf s S c (taken ended hand) in
-        absurd (omega (arith, carries-room K s c room (taken ended hand) e, length-take (chunkEnd ended hand) hand))
+        let b = tell-bound K wf (row-laws K wf) s S c (taken ended hand) in
+        absurd (omega (arith, carries-room K (row-laws K wf) s c room (taken ended hand) e, length-take (chunkEnd ended hand) hand))
+    has-room Row e = refl
 
     pub log-told : Tells ended (tell K s c (splitOn 10 (hand ++ rest))) (onLog room K s c ended hand) rest
     unfolding onLog
@@ -83,17 +86,18 @@ module _ (room : ℕ) (ended : Bool) (rest : List ℕ) (o : ended ≡ true → r
 
         by-stop : ended ≡ false → (w : Stop) → now-judged .stop ≡ w → Tells ended (tell K s c (splitOn 10 (hand ++ rest))) (onLog room K s c ended hand) rest
         by-stop q End e = record {
-          now = ap (λ l. tell K s c (splitOn 10 l)) parts ∙ carries-end K s c room (taken ended hand) e (left ended hand ++ rest) ∙ rw (e, q, append-nil);
-          little = rw (e, q) (wf, rw q at (played-sound K (formed K wf) s S c room (taken ended hand)), rest-short hand);
+          now = ap (λ l. tell K s c (splitOn 10 l)) parts ∙ carries-end K (row-laws K wf) s c room (taken ended hand) e (left ended hand ++ rest) ∙ rw (e, q, append-nil);
+          little = rw (e, q) (wf, rw q at (played-sound K (formed K wf) (row-laws K wf) s S c room (taken ended hand)), rest-short hand);
           end = λ z. absurd (false-true (sym q ∙ z));
         }
         by-stop q (Refused n) e = record {
-          now = ap (λ l. tell K s c (splitOn 10 l)) parts ∙ carries-refused K s c room (taken ended hand) (rw q (whole-settled hand)) e (left ended hand ++ rest)
+          now = ap (λ l. tell K s c (splitOn 10 l)) parts ∙ carries-refused K (row-laws K wf) s c room (taken ended hand) (rw q (whole-settled hand)) e (left ended hand ++ rest)
               ∙ rw (e, append-nil);
           little = rw e tt;
           end = λ z. absurd (false-true (sym q ∙ z));
         }
         by-stop q (Closed k) e = absurd (false-true (sym (has-room (Closed k) e)))
+        by-stop q Row e = absurd (false-true (sym (played-whole K (formed K wf) (row-laws K wf) s S c room (taken ended hand)) ∙ ap isRow e))
 
         by-end : (b : Bool) → ended ≡ b → Tells ended (tell K s c (splitOn 10 (hand ++ rest))) (onLog room K s c ended hand) rest
         by-end false q = by-stop q (now-judged .stop) refl
@@ -101,7 +105,7 @@ module _ (room : ℕ) (ended : Bool) (rest : List ℕ) (o : ended ≡ true → r
             let v : isOver ended (now-judged .stop) ≡ true = ap (λ b. isOver b (now-judged .stop)) q ∙ over-last (now-judged .stop) in
             let w : hand ++ rest ≡ taken ended hand = rw (o q, append-nil, q, take-length hand) in
             record {
-              now = ap (λ l. tell K s c (splitOn 10 l)) w ∙ carries-last K s c room (taken ended hand) (has-room (now-judged .stop) refl) ∙ rw (v, append-nil);
+              now = ap (λ l. tell K s c (splitOn 10 l)) w ∙ carries-last K (row-laws K wf) s c room (taken ended hand) (has-room (now-judged .stop) refl) ∙ rw (v, append-nil);
               little = rw v tt;
               end = λ z. rw v;
             }

@@ -4,16 +4,19 @@ use mathlib.Core.Bool.{Bool}
 use mathlib.Core.List.{List, [], _∷_, _++_}
 use mathlib.Core.Path.{_≡_, refl, ap}
 use native.Mathlib.Omega.{arith}
+use lib.Dec.{T}
 use lib.ListN.{length, getD, take, drop, length-append, length-take, length-drop}
 use lib.Seq.{sets-eq, take-at}
 use Rattle.text.specs.Parts.{pick}
 use Rattle.text.specs.Put.{Put}
 use Rattle.text.proofs.Puts.{put-fits}
 use Rattle.model.specs.Tables.{Table}
+use Rattle.model.specs.Rows.{wellformed}
 use Rattle.model.specs.Cycles.{refusedReport}
 use Rattle.model.proofs.Tests.{true-T}
 use Rattle.table.specs.Texts.{readTable}
 use Rattle.prepared.specs.Prepared.{tableIn, Prepared}
+use Rattle.entries.proofs.Owning.{row-laws}
 use Rattle.report.specs.Rows.{headText, rowsText, sumWord, sumNumbers, sumText}
 use Rattle.report.proofs.Lines.{head-length, line-length, numbers-most}
 use Rattle.engine.specs.declared.Going.{Going}
@@ -49,7 +52,7 @@ module _ {rows index : List ℕ} (P : Prepared rows index) (g : Going) (R : Resu
       let S = resumes-sound R in
       let w : mostTold (length hand) ≤ length out = omega (arith, length-take have block) in
       let t = log-told (length out) ended [] (λ e. refl) K wf (g .state) S (g .tally) hand w in
-      let b = tell-bound K wf (g .state) S (g .tally) (hand ++ []) in
+      let b = tell-bound K wf (row-laws K wf) (g .state) S (g .tally) (hand ++ []) in
       let o = onLog (length out) K (g .state) (g .tally) ended hand in
       omega (arith, ap length (t .now), length-append (o .bytes) (owed (o .next) []), length-append hand [])
 

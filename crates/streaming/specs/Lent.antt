@@ -7,21 +7,14 @@ use lib.ListN.{length, take, drop}
 use Rattle.text.specs.Put.{Put}
 use Rattle.model.specs.Limits.{mostTasks, mostActs}
 use Rattle.model.specs.Tables.{Table}
-use Rattle.model.specs.declared.State.{State}
 use Rattle.table.specs.Texts.{isEmpty, readTable}
-use Rattle.conflicts.specs.Busy.{busyIn}
-use Rattle.managing.specs.Listed.{listedIn}
-use Rattle.tally.specs.declared.Tally.{Tally}
 use Rattle.engine.specs.Play.{Played, Ready}
+use Rattle.engine.specs.Starts.{goingAt}
 use Rattle.engine.specs.declared.Going.{Going}
 use Rattle.stream.specs.Cut.{cutOf}
 use Rattle.streaming.specs.Turns.{left, playedNow, isOver, toldOf, opening}
 use Rattle.streaming.specs.declared.Turn.{Turn}
 use Rattle.streaming.specs.declared.Opened.{Opened}
-
--- a state and a tally with what is kept beside them
-abbrev pub goingAt : State → Tally → Going
-goingAt s c = record { state = s; busy = busyIn s; listed = listedIn s; tally = c }
 
 -- a log goes on from here: a sound state that has all its records, and beside it what follows from it
 pub record Resumes (K : Table) (g : Going) : Type 0 where

@@ -16,7 +16,7 @@ use Rattle.tally.specs.Tallies.{noTally, sumOf}
 use Rattle.tally.specs.declared.Tally.{Tally}
 use Rattle.engine.specs.Play.{Played, played}
 use Rattle.engine.specs.declared.Stop.{Stop}
-use Rattle.engine.specs.declared.Stop.the-variants.{End, Refused, Closed}
+use Rattle.engine.specs.declared.Stop.the-variants.{End, Refused, Closed, Row}
 use Rattle.stream.specs.Cut.{cutOf, cutKnown}
 use Rattle.stream.specs.Chunk.{chunkEnd}
 use Rattle.judging.specs.Report.{reportText, refusalOf}
@@ -49,6 +49,7 @@ abbrev pub isOver : Bool → Stop → Bool
 isOver ended End = ended
 isOver ended (Refused n) = true
 isOver ended (Closed k) = ended
+isOver ended Row = ended
 
 -- where it ends the `sum` row is told
 abbrev pub endText : Table → State → Tally → Stop → Bool → List ℕ

@@ -6,7 +6,7 @@ ghost use Rattle.text.specs.Put.{Put};
 ghost use Rattle.table.specs.Checks.{numbersOf};
 ghost use Rattle.table.specs.Texts.{isEmpty};
 ghost use Rattle.prepared.specs.Prepared.{tableIn, Prepared};
-ghost use Rattle.tally.specs.Tallies.{mostCount, Roomy};
+ghost use Rattle.tally.specs.Tallies.{mostCount, linesOf, Roomy};
 ghost use Rattle.streaming.specs.Turns.{isOver, endText, opening, mostTold};
 ghost use Rattle.streaming.specs.Lent.{Resumes, Judged, Opens};
 use engine::Going;
@@ -78,6 +78,7 @@ fn is_over(ended: bool, stop: Stop) -> bool
         Stop::End => ended,
         Stop::Refused(_) => true,
         Stop::Closed(_) => ended,
+        Stop::Row => ended,
     }
 }
 
@@ -91,7 +92,7 @@ fn put_end(
     stop: Stop,
     done: bool,
 ) -> usize
-    requires { ⌜ Prepared (now rows) (now index) × (g .tally .steps ≤ mostCount) ⌝ }
+    requires { ⌜ Prepared (now rows) (now index) × (linesOf (g .tally) ≤ mostCount) ⌝ }
     ensures { λ r. ⌜ Put (now (out .entry)) at (endText (tableIn (now (rows .entry)) (now (index .entry))) (g .state) (g .tally) stop done) r (now (out .exit)) ⌝ }
 {
     if !done {
@@ -115,7 +116,7 @@ pub fn judge_block(
     ensures { λ r. ⌜ Judged (tableIn (now (rows .entry)) (now (index .entry))) g ended (now (block .entry)) have (now (out .entry)) r (now (block .exit)) (now (out .exit)) ⌝ }
 {
     let end = stream::chunk_end(&block[..have], ended);
-    let ran = engine::run(rows, index, &block[..end], 0, g, out, 0);
+    let ran = playing::play(rows, index, &block[..end], 0, g, out, 0);
     let going = ran.going;
     let filled = ran.filled;
     let stop = ran.stop;

@@ -30,7 +30,7 @@ pub ruling-is : (K : Table) (t : ℕ) (k z : TaskStep) (date : ℕ) (u : Task) (
 ruling-is K t k z date u w e h = rw e h
 
 -- what a wait and any other step leave counted
-pub wait-counted : (c : Tally) (m : ℕ) → m ≡ max (c .most) (c .since) → record { steps = c .steps + 1; opened = c .opened; kept = c .kept; dropped = c .dropped; since = 0; most = m } ≡ afterWait c
+pub wait-counted : (c : Tally) (m : ℕ) → m ≡ max (c .most) (c .since) → record { steps = c .steps + 1; rows = c .rows; opened = c .opened; kept = c .kept; dropped = c .dropped; since = 0; most = m } ≡ afterWait c
 wait-counted c m h = rw h
 
 pub step-counted : (c r : Tally) (w v : Ruling) → w ≡ v → r ≡ afterStep c v → r ≡ afterStep c w

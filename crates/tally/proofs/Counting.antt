@@ -14,18 +14,18 @@ use Rattle.model.specs.declared.State.{State}
 use Rattle.prepared.specs.Prepared.{tableIn, Prepared}
 use Rattle.prepared.proofs.Stored.{most-tasks}
 use Rattle.report.specs.Rows.{sumNumbers}
-use Rattle.tally.specs.Tallies.{sumOf}
+use Rattle.tally.specs.Tallies.{linesOf, began, sumOf}
 use Rattle.tally.specs.declared.Tally.{Tally}
 
--- the line of a refusal
-pub line-some : (n steps : ℕ) → (n ≡ 0 → ⊥) → steps + 1 ≡ lineOf n steps
-line-some zero steps h = absurd (h refl)
-line-some (suc n) steps h = refl
-
 -- the numbers of the `sum` row, each as it was found
-pub sum-known : (K : Table) (s : State) (c : Tally) (n a b d : ℕ) → a ≡ managing K s → b ≡ max (c .most) (c .since) → d ≡ lineOf n (c .steps)
+pub sum-known : (K : Table) (s : State) (c : Tally) (n a b d : ℕ) → a ≡ managing K s → b ≡ max (c .most) (c .since) → d ≡ lineOf n (linesOf c)
     → c .steps ∷ s .date ∷ c .opened ∷ c .kept ∷ c .dropped ∷ a ∷ b ∷ n ∷ d ∷ [] ≡ sumNumbers (sumOf K s c n)
 sum-known K s c n a b d p q r = rw (p, q, r)
+
+-- the tally of a log that begins with a row, its managing tasks as they were found
+pub began-known : (K : Table) (s : State) (n : ℕ) → n ≡ managing K s → record { steps = 0; rows = 1; opened = n; kept = 0; dropped = 0; since = 0; most = 0 } ≡ began K s
+unfolding began
+began-known K s n h = rw h
 
 -- there are at most sixteen tasks
 pub few-tasks : {rows index : List ℕ} → Prepared rows index → (m : ℕ) → m ≡ tableIn rows index .ntasks → m ≤ mostTasks

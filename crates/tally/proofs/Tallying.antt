@@ -1,4 +1,4 @@
--- What an accepted step adds to the tally, by its kind, and that there is room for it.
+-- What an accepted step adds to the tally, by its kind, and that there is room for it, and for a `state` row.
 use Prim.Native.Nat.{ℕ, _<_}
 use mathlib.Core.Bool.{false}
 use mathlib.Core.Path.{_≡_, refl}
@@ -14,7 +14,7 @@ use Rattle.model.specs.declared.TaskStep.{TaskStep}
 use Rattle.model.specs.declared.TaskStep.the-variants.{St, Fm}
 use Rattle.model.specs.declared.Step.{Step}
 use Rattle.model.specs.declared.Step.the-variants.{Wait, Sm, OfTask}
-use Rattle.tally.specs.Tallies.{rulingOf, counted, tallied, afterWait, afterSm, afterStep, rulingBy, Roomy}
+use Rattle.tally.specs.Tallies.{rulingOf, counted, tallied, afterWait, afterSm, afterStep, afterRow, rulingBy, Roomy}
 use Rattle.tally.specs.declared.Tally.{Tally}
 use Rattle.tally.specs.declared.Ruling.{Ruling}
 use Rattle.tally.specs.declared.Ruling.the-variants.{Open, Kept, Dropped}
@@ -47,16 +47,20 @@ module _ (K : Table) (s : State) where
 -- room for one more, and what is left then
 module _ (c : Tally) (n : ℕ) (R : Roomy c n) where
   pub roomy-one : 0 < n → Roomy c 1
-  roomy-one h = record { steps = omega arith; opened = omega arith; kept = omega arith; dropped = omega arith; since = omega arith }
+  roomy-one h = record { lines = omega arith; opened = omega arith; kept = omega arith; dropped = omega arith; since = omega arith }
 
   module _ (m : ℕ) (h : m < n) where
     pub wait-roomy : Roomy (afterWait c) m
-    wait-roomy = record { steps = omega arith; opened = omega arith; kept = omega arith; dropped = omega arith; since = omega arith }
+    wait-roomy = record { lines = omega arith; opened = omega arith; kept = omega arith; dropped = omega arith; since = omega arith }
 
     pub sm-roomy : Roomy (afterSm c) m
-    sm-roomy = record { steps = omega arith; opened = omega arith; kept = omega arith; dropped = omega arith; since = omega arith }
+    sm-roomy = record { lines = omega arith; opened = omega arith; kept = omega arith; dropped = omega arith; since = omega arith }
 
     pub step-roomy : (w : Ruling) → Roomy (afterStep c w) m
-    step-roomy Open = record { steps = omega arith; opened = omega arith; kept = omega arith; dropped = omega arith; since = omega arith }
-    step-roomy (Kept r) = record { steps = omega arith; opened = omega arith; kept = omega arith; dropped = omega arith; since = omega arith }
-    step-roomy Dropped = record { steps = omega arith; opened = omega arith; kept = omega arith; dropped = omega arith; since = omega arith }
+    step-roomy Open = record { lines = omega arith; opened = omega arith; kept = omega arith; dropped = omega arith; since = omega arith }
+    step-roomy (Kept r) = record { lines = omega arith; opened = omega arith; kept = omega arith; dropped = omega arith; since = omega arith }
+    step-roomy Dropped = record { lines = omega arith; opened = omega arith; kept = omega arith; dropped = omega arith; since = omega arith }
+
+    -- a `state` row
+    pub row-roomy : Roomy (afterRow c) m
+    row-roomy = record { lines = omega arith; opened = omega arith; kept = omega arith; dropped = omega arith; since = omega arith }

@@ -16,7 +16,7 @@ use Rattle.tally.specs.declared.Ruling.the-variants.{Open, Kept, Dropped
 
 -- nothing counted yet
 abbrev pub noTally : Tally
-noTally = record { steps = 0; opened = 0; kept = 0; dropped = 0; since = 0; most = 0 }
+noTally = record { steps = 0; rows = 0; opened = 0; kept = 0; dropped = 0; since = 0; most = 0 }
 
 -- a verdict as the code has it
 abbrev pub rulingOf : Verdict → Ruling
@@ -35,6 +35,7 @@ keepsOne dropped = 0
 abbrev pub counted : Step → Verdict → Tally → Tally
 counted x v c = record {
   steps = c .steps + 1;
+  rows = c .rows;
   opened = c .opened + opens x;
   kept = c .kept + keepsOne v;
   dropped = c .dropped + drops v;
@@ -47,15 +48,27 @@ tallied K s x c = counted x (verdict K s x) c
 
 -- the same by kind of step, as the code has it
 abbrev pub afterWait : Tally → Tally
-afterWait c = record { steps = c .steps + 1; opened = c .opened; kept = c .kept; dropped = c .dropped; since = 0; most = max (c .most) (c .since) }
+afterWait c = record { steps = c .steps + 1; rows = c .rows; opened = c .opened; kept = c .kept; dropped = c .dropped; since = 0; most = max (c .most) (c .since) }
 
 abbrev pub afterSm : Tally → Tally
-afterSm c = record { steps = c .steps + 1; opened = c .opened + 1; kept = c .kept; dropped = c .dropped; since = c .since + 1; most = c .most }
+afterSm c = record { steps = c .steps + 1; rows = c .rows; opened = c .opened + 1; kept = c .kept; dropped = c .dropped; since = c .since + 1; most = c .most }
 
 abbrev pub afterStep : Tally → Ruling → Tally
-afterStep c Open = record { steps = c .steps + 1; opened = c .opened; kept = c .kept; dropped = c .dropped; since = c .since + 1; most = c .most }
-afterStep c (Kept r) = record { steps = c .steps + 1; opened = c .opened; kept = c .kept + 1; dropped = c .dropped; since = c .since + 1; most = c .most }
-afterStep c Dropped = record { steps = c .steps + 1; opened = c .opened; kept = c .kept; dropped = c .dropped + 1; since = c .since + 1; most = c .most }
+afterStep c Open = record { steps = c .steps + 1; rows = c .rows; opened = c .opened; kept = c .kept; dropped = c .dropped; since = c .since + 1; most = c .most }
+afterStep c (Kept r) = record { steps = c .steps + 1; rows = c .rows; opened = c .opened; kept = c .kept + 1; dropped = c .dropped; since = c .since + 1; most = c .most }
+afterStep c Dropped = record { steps = c .steps + 1; rows = c .rows; opened = c .opened; kept = c .kept; dropped = c .dropped + 1; since = c .since + 1; most = c .most }
+
+-- how many lines were accepted: steps and `state` rows
+abbrev pub linesOf : Tally → ℕ
+linesOf c = c .steps + c .rows
+
+-- the tally after a `state` row that equals the state reached: a line, no step
+abbrev pub afterRow : Tally → Tally
+afterRow c = record { steps = c .steps; rows = c .rows + 1; opened = c .opened; kept = c .kept; dropped = c .dropped; since = c .since; most = c .most }
+
+-- the tally of a log whose first line, a `state` row, sets the state: "managing tasks at the start count as opened"
+unfoldable pub began : Table → State → Tally
+began K s = record { steps = 0; rows = 1; opened = managing K s; kept = 0; dropped = 0; since = 0; most = 0 }
 
 -- the verdict on a task whose record is x, at a date
 abbrev pub ruledBy : Table → ℕ → ℕ → Task → Ruling
@@ -71,7 +84,7 @@ mostCount = 9223372036854775808
 
 -- each count can still grow by n
 pub record Roomy (c : Tally) (n : ℕ) : Type 0 where
-  pub steps : c .steps + n ≤ mostCount
+  pub lines : c .steps + c .rows + n ≤ mostCount
   pub opened : c .opened + n ≤ mostCount
   pub kept : c .kept + n ≤ mostCount
   pub dropped : c .dropped + n ≤ mostCount
@@ -88,5 +101,5 @@ sumOf K s c n = record {
   managing = managing K s;
   most = max (c .most) (c .since);
   refusal = n;
-  line = lineOf n (c .steps);
+  line = lineOf n (linesOf c);
 }

@@ -4,16 +4,17 @@ ghost use Prim.Native.Nat.{_<_, _≤_};
 ghost use Rattle.model.specs.Cycles.{managing, lineOf};
 ghost use Rattle.report.specs.Rows.{sumNumbers};
 ghost use Rattle.prepared.specs.Prepared.{tableIn, Prepared};
-ghost use Rattle.tally.specs.Tallies.{ruledBy, rulingBy, afterWait, afterSm, afterStep, mostCount, Roomy, sumOf};
+ghost use Rattle.tally.specs.Tallies.{ruledBy, rulingBy, afterWait, afterSm, afterStep, linesOf, afterRow, began, mostCount, Roomy, sumOf};
 use model::State;
 use model::Task;
 use model::TaskStep;
 use report::Cycle;
 
-// What is counted beside a run: accepted steps, cycles opened, kept and dropped, the steps since the last wait, and the most of the
-// stretches that a wait has ended.
+// What is counted beside a run: accepted steps, `state` rows, cycles opened, kept and dropped, the steps since the last wait, and the most of
+// the stretches that a wait has ended.
 pub struct Tally {
     pub steps: u64,
+    pub rows: u64,
     pub opened: u64,
     pub kept: u64,
     pub dropped: u64,
@@ -109,6 +110,16 @@ pub fn after_step(c: Tally, w: Ruling) -> Tally
     }
 }
 
+// The tally after a `state` row that equals the state reached: a line, no step.
+pub fn after_row(c: Tally) -> Tally
+    requires { ⌜ Roomy c 1 ⌝ }
+    ensures { λ r. ⌜ r ≡ afterRow c ⌝ }
+{
+    let mut d = c;
+    d.rows = c.rows + 1;
+    d
+}
+
 // How many tasks manage.
 fn count_managing(rows: &[u32], index: &[u32], s: State) -> u64
     requires { ⌜ Prepared (now rows) (now index) ⌝ }
@@ -127,20 +138,36 @@ fn count_managing(rows: &[u32], index: &[u32], s: State) -> u64
     n
 }
 
+// The tally of a log whose first line, a `state` row, sets the state: "managing tasks at the start count as opened".
+pub fn begun_at(rows: &[u32], index: &[u32], s: State) -> Tally
+    requires { ⌜ Prepared (now rows) (now index) ⌝ }
+    ensures { λ r. ⌜ r ≡ began (tableIn (now (rows .entry)) (now (index .entry))) s ⌝ }
+{
+    Tally {
+        steps: 0,
+        rows: 1,
+        opened: count_managing(rows, index, s),
+        kept: 0,
+        dropped: 0,
+        since: 0,
+        most: 0,
+    }
+}
+
 // "Lines count from the first line of table or log. .. No refusal: 0 and 0."
-fn line_of(refusal: u64, steps: u64) -> u64
-    requires { ⌜ steps ≤ mostCount ⌝ }
-    ensures { λ r. ⌜ r ≡ lineOf refusal steps ⌝ }
+fn line_of(refusal: u64, lines: u64) -> u64
+    requires { ⌜ lines ≤ mostCount ⌝ }
+    ensures { λ r. ⌜ r ≡ lineOf refusal lines ⌝ }
 {
     if refusal == 0 {
         return 0;
     }
-    steps + 1
+    lines + 1
 }
 
 // The numbers of the `sum` row where judging ends with a refusal, 0 for none.
 pub fn sum_numbers(rows: &[u32], index: &[u32], s: State, c: Tally, refusal: u64) -> [u64; 9]
-    requires { ⌜ Prepared (now rows) (now index) × (c .steps ≤ mostCount) ⌝ }
+    requires { ⌜ Prepared (now rows) (now index) × (linesOf c ≤ mostCount) ⌝ }
     ensures { λ r. ⌜ r ≡ sumNumbers (sumOf (tableIn (now (rows .entry)) (now (index .entry))) s c refusal) ⌝ }
 {
     let mut n = [0u64; 9];
@@ -152,6 +179,6 @@ pub fn sum_numbers(rows: &[u32], index: &[u32], s: State, c: Tally, refusal: u64
     n[5] = count_managing(rows, index, s);
     n[6] = records::larger(c.most, c.since);
     n[7] = refusal;
-    n[8] = line_of(refusal, c.steps);
+    n[8] = line_of(refusal, c.steps + c.rows);
     n
 }

@@ -46,7 +46,7 @@ same-test true b f g = sym (f refl)
 same-test false b f g = cases b (λ e. g e ∙ sym e) (λ e. sym e)
 
 -- what is tested of each holds of each
-each-of-at : (k : ℕ) (p q : ℕ → Bool) → eachOf k p q ≡ true → (i : ℕ) → i < k → p i ≡ true → q i ≡ true
+pub each-of-at : (k : ℕ) (p q : ℕ → Bool) → eachOf k p q ≡ true → (i : ℕ) → i < k → p i ≡ true → q i ≡ true
 unfolding eachOf
 each-of-at zero p q h i l u = absurd (omega arith)
 each-of-at (suc k) p q h i l u =
@@ -57,7 +57,7 @@ each-of-at (suc k) p q h i l u =
     (λ e. order i k (λ m. each-of-at k p q (rw e at h) i m u) (λ m. let z : i ≡ k = omega arith in absurd (false-true (sym e ∙ rw z at u))))
 
 -- and what holds of each is so tested
-each-of-mk : (k : ℕ) (p q : ℕ → Bool) → ((i : ℕ) → i < k → p i ≡ true → q i ≡ true) → eachOf k p q ≡ true
+pub each-of-mk : (k : ℕ) (p q : ℕ → Bool) → ((i : ℕ) → i < k → p i ≡ true → q i ≡ true) → eachOf k p q ≡ true
 unfolding eachOf
 each-of-mk zero p q f = refl
 each-of-mk (suc k) p q f =

@@ -15,7 +15,7 @@ use Rattle.prepared.specs.Prepared.{tableIn}
 use Rattle.rules.proofs.Facts.{place-known, timer-fits, clock-fits}
 use Rattle.waits.proofs.Holders.{rows-long, task-fits, holder-fits, Asked, Says, busy-long as asked-long, manager-says, activity-says, asked-more, asked-stops, asked-all}
 use Rattle.tally.specs.Tallies.{Roomy}
-use Rattle.engine.proofs.Runs.{Continues, run-starts, run-ends, run-bad, busy-sized, listed-sized, Scene, table, Turn, Goes, turn-is, newline-inside, less-left, room-for-one, turn-stops, turn-passed, turn-kept, turn-full, turn-told, rows-kept}
+use Rattle.engine.proofs.Runs.{Continues, run-starts, run-ends, run-unread, busy-sized, listed-sized, Scene, table, Turn, Goes, turn-is, newline-inside, less-left, room-for-one, turn-stops, turn-passed, turn-kept, turn-full, turn-told, rows-kept}
 use Rattle.engine.proofs.Waiting.{Ages, ages-none, date-fits, timer-small, ages-manager, ager-fits, clock-small, ages-activity, Waits, turn-waits, asks-none, is-refusal, wait-goes}
 use Rattle.engine.proofs.Naming.{Tasked, turn-tasked, task-cell, missed-small, cycle-small, opened-before, listed-long, Named, turn-named, act-cell, touched, place-there, busy-long}
 use Rattle.engine.proofs.Managing.{Lists, listed-fits, lists-more, Manages, turn-manages, lists-none, sm-goes}
@@ -499,8 +499,8 @@ loop-again-2 c = turn-told (goes (c .before .before .before .before .before .bef
 loop-less-2 : tie.Need-loop-less-2 Inv-loop2 μ-loop2 Inv-loop3 μ-loop3 Inv-loop4 μ-loop4 Inv-loop μ-loop
 loop-less-2 c = search falls
 
-stop-of-requires : tie.Need-stop-of-requires Inv-loop2 μ-loop2 Inv-loop3 μ-loop3 Inv-loop4 μ-loop4 Inv-loop μ-loop
-stop-of-requires c κs = search needs
+stop-at-requires : tie.Need-stop-at-requires Inv-loop2 μ-loop2 Inv-loop3 μ-loop3 Inv-loop4 μ-loop4 Inv-loop μ-loop
+stop-at-requires c κs = search needs
 
 left-at-requires-2 : tie.Need-left-at-requires-2 Inv-loop2 μ-loop2 Inv-loop3 μ-loop3 Inv-loop4 μ-loop4 Inv-loop μ-loop
 left-at-requires-2 c κs = search needs
@@ -513,32 +513,32 @@ returns-2 c =
     let given = c .before .before .before .before .before .before .before .before .before .before .before .before .before .args in
     let Z = c .before .before .before .loop .inv in
     ⊎-elim
-    (λ w. run-ends (tableIn (now (given .rows)) (now (given .index))) (now (given .log)) (given .from) (given .g) (now (given .buf)) (given .place) (Z .plays) _ (w .0 .left) (w .1) (Z .none) (c .before .stop-of .ensures) (c .left-at2 .ensures))
+    (λ w. run-ends (tableIn (now (given .rows)) (now (given .index))) (now (given .log)) (given .from) (given .g) (now (given .buf)) (given .place) (Z .plays) _ (w .0 .left) (w .1) (Z .none) (c .before .stop-at .ensures) (c .left-at2 .ensures))
     (⊎-elim
-    (λ w. run-bad (tableIn (now (given .rows)) (now (given .index))) (now (given .log)) (given .from) (given .g) (now (given .buf)) (given .place) (Z .plays) _ _ (w .0 .taken) (w .1 .ensures) _ (w .2 .ensures) (w .4 .given .1) (w .5) (c .before .stop-of .ensures) (c .left-at2 .ensures))
+    (λ w. run-unread (tableIn (now (given .rows)) (now (given .index))) (now (given .log)) (given .from) (given .g) (now (given .buf)) (given .place) (Z .plays) _ _ (w .0 .taken) (w .1 .ensures) _ (w .2 .ensures) (w .4 .given .1) (w .5) (c .before .stop-at .ensures) (c .left-at2 .ensures))
     (⊎-elim
     (λ w.
     let read : tie.After-known-told Inv-loop2 μ-loop2 Inv-loop3 μ-loop3 Inv-loop4 μ-loop4 Inv-loop μ-loop = record { before = record { before = record { before = record { before = record { before = record { before = c .before .before .before; loop-test = w .0 }; next-byte = w .1 }; line-at = w .2 }; match = w .3 }; st = w .4 }; known-told = w .5 } in
     let number : tie.After-wait-number Inv-loop2 μ-loop2 Inv-loop3 μ-loop3 Inv-loop4 μ-loop4 Inv-loop μ-loop = record { before = record { before = record { before = record { before = record { before = record { before = read; match2 = w .6 }; st2 = w .7 }; known-told2 = w .8 }; loop2 = w .9 }; loop2-test = w .10 }; wait-number = w .11 } in
-    turn-stops (turn read) (is-refusal (waits (number .before .before .before)) (wait-refusal number)) (w .12 .taken) (w .13) (c .before .stop-of .ensures) (c .left-at2 .ensures))
+    turn-stops (turn read) (is-refusal (waits (number .before .before .before)) (wait-refusal number)) (w .12 .taken) (w .13) (c .before .stop-at .ensures) (c .left-at2 .ensures))
     (⊎-elim
     (λ w.
     let read : tie.After-known-told Inv-loop2 μ-loop2 Inv-loop3 μ-loop3 Inv-loop4 μ-loop4 Inv-loop μ-loop = record { before = record { before = record { before = record { before = record { before = record { before = c .before .before .before; loop-test = w .0 }; next-byte = w .1 }; line-at = w .2 }; match = w .3 }; st = w .4 }; known-told = w .5 } in
     let number : tie.After-sm-number Inv-loop2 μ-loop2 Inv-loop3 μ-loop3 Inv-loop4 μ-loop4 Inv-loop μ-loop = record { before = record { before = record { before = record { before = record { before = record { before = read; match2 = w .6 }; st3 = w .7 }; known-told5 = w .8 }; row-in = w .9 }; x3 = w .10 }; sm-number = w .11 } in
-    turn-stops (turn read) (manages number .number) (w .12 .taken) (w .13) (c .before .stop-of .ensures) (c .left-at2 .ensures))
+    turn-stops (turn read) (manages number .number) (w .12 .taken) (w .13) (c .before .stop-at .ensures) (c .left-at2 .ensures))
     (⊎-elim
     (λ w.
     let read : tie.After-known-told Inv-loop2 μ-loop2 Inv-loop3 μ-loop3 Inv-loop4 μ-loop4 Inv-loop μ-loop = record { before = record { before = record { before = record { before = record { before = record { before = c .before .before .before; loop-test = w .0 }; next-byte = w .1 }; line-at = w .2 }; match = w .3 }; st = w .4 }; known-told = w .5 } in
     let told : tie.After-task-step Inv-loop2 μ-loop2 Inv-loop3 μ-loop3 Inv-loop4 μ-loop4 Inv-loop μ-loop = record { before = record { before = record { before = record { before = record { before = record { before = record { before = record { before = read; match2 = w .6 }; st4 = w .7 }; known-told6 = w .8 }; row-in2 = w .9 }; x4 = w .10 }; listed2 = w .11 }; is-empty-for = w .12 }; task-step = w .13 } in
-    turn-stops (turn read) (of-task told .number) (w .14 .taken) (w .15) (c .before .stop-of .ensures) (c .left-at2 .ensures))
+    turn-stops (turn read) (of-task told .number) (w .14 .taken) (w .15) (c .before .stop-at .ensures) (c .left-at2 .ensures))
     (⊎-elim
     (λ w.
     let read : tie.After-known-told Inv-loop2 μ-loop2 Inv-loop3 μ-loop3 Inv-loop4 μ-loop4 Inv-loop μ-loop = record { before = record { before = record { before = record { before = record { before = record { before = c .before .before .before; loop-test = w .0 }; next-byte = w .1 }; line-at = w .2 }; match = w .3 }; st = w .4 }; known-told = w .5 } in
-    turn-stops (turn read) (act-unnamed (turn read) (w .7 .given .1) (w .9 .ensures) (w .10 .taken)) (w .10 .taken) (w .11) (c .before .stop-of .ensures) (c .left-at2 .ensures))
+    turn-stops (turn read) (act-unnamed (turn read) (w .7 .given .1) (w .9 .ensures) (w .10 .taken)) (w .10 .taken) (w .11) (c .before .stop-at .ensures) (c .left-at2 .ensures))
     (λ w.
     let read : tie.After-known-told Inv-loop2 μ-loop2 Inv-loop3 μ-loop3 Inv-loop4 μ-loop4 Inv-loop μ-loop = record { before = record { before = record { before = record { before = record { before = record { before = c .before .before .before; loop-test = w .0 }; next-byte = w .1 }; line-at = w .2 }; match = w .3 }; st = w .4 }; known-told = w .5 } in
     let told : tie.After-local-step Inv-loop2 μ-loop2 Inv-loop3 μ-loop3 Inv-loop4 μ-loop4 Inv-loop μ-loop = record { before = record { before = record { before = record { before = record { before = record { before = record { before = record { before = record { before = record { before = record { before = read; match2 = w .6 }; st5 = w .7 }; known-told7 = w .8 }; check-names = w .9 }; if5 = w .10 }; task-in = w .11 }; x5 = w .12 }; y4 = w .13 }; busy3 = w .14 }; is-clear-for = w .15 }; local-step = w .16 } in
-    turn-stops (turn read) (act-number (of-act told)) (w .17 .taken) (w .18) (c .before .stop-of .ensures) (c .left-at2 .ensures)))))))
+    turn-stops (turn read) (act-number (of-act told)) (w .17 .taken) (w .18) (c .before .stop-at .ensures) (c .left-at2 .ensures)))))))
     (c .before .before .loop-test .came)
 
 pub run-spec : {M : Type 1} → statement M
@@ -663,7 +663,7 @@ run-spec =
     returns
     loop-less-2
     loop-again-2
-    stop-of-requires
+    stop-at-requires
     left-at-requires-2
     same-length-2
     returns-2)

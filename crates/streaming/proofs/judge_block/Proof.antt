@@ -14,14 +14,14 @@ slice-aggregate-chunk-end c = part-long _ _ (search needs)
 chunk-end-requires : tie.Need-chunk-end-requires
 chunk-end-requires c κs = search needs
 
-slice-reshare-prefix-run : tie.Need-slice-reshare-prefix-run
-slice-reshare-prefix-run c = search (chunk-inside)
+slice-reshare-prefix-play : tie.Need-slice-reshare-prefix-play
+slice-reshare-prefix-play c = search (chunk-inside)
 
-slice-aggregate-run : tie.Need-slice-aggregate-run
-slice-aggregate-run c = part-long _ _ (search (chunk-inside))
+slice-aggregate-play : tie.Need-slice-aggregate-play
+slice-aggregate-play c = part-long _ _ (search (chunk-inside))
 
-run-requires : tie.Need-run-requires
-run-requires c κs =
+play-requires : tie.Need-play-requires
+play-requires c κs =
     let start = c .before .before .before .before .before .before .before .before in
     let pre = start .pre in
     (pre .0, pre .1 .ready, search needs, chunk-roomy _ _ (pre .3) (start .args .ended) _ (c .before .before .chunk-end .ensures) (pre .2), search needs)
@@ -48,7 +48,7 @@ returns c =
     let end = ran .before .before .before in
     let start = end .before .before .before .before .before .before in
     let pre = start .pre in
-    turned (pre .0) _ (pre .1) _ _ (pre .3) _ _ (pre .4) _ (end .chunk-end .ensures) (ran .run .ensures) _ (told .before .before .is-over .ensures)
+    turned (pre .0) _ (pre .1) _ _ (pre .3) _ _ (pre .4) _ (end .chunk-end .ensures) (ran .play .ensures) _ (told .before .before .is-over .ensures)
     _ _ (told .put-end .ensures) _ _ (c .before .before .to-front .ensures)
 
 pub judge-block-spec : {M : Type 1} → statement M
@@ -58,9 +58,9 @@ judge-block-spec =
     slice-reshare-prefix-chunk-end
     slice-aggregate-chunk-end
     chunk-end-requires
-    slice-reshare-prefix-run
-    slice-aggregate-run
-    run-requires
+    slice-reshare-prefix-play
+    slice-aggregate-play
+    play-requires
     is-over-requires
     put-end-requires
     to-front-requires

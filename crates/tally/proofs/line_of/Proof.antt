@@ -1,6 +1,6 @@
 -- `line_of` meets its contract.
 use borrow.Author.Needs.{needs}
-use Rattle.tally.proofs.Counting.{line-some}
+use Rattle.model.proofs.Reports.{line-some}
 use Rattle.tally.proofs.line_of.Statement.{statement}
 use Rattle.tally.proofs.line_of.Tie as tie
 

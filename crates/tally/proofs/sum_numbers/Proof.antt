@@ -34,6 +34,9 @@ array-write-n-7 c = search needs
 array-write-n-8 : tie.Need-array-write-n-8
 array-write-n-8 c = search needs
 
+add-line-of : tie.Need-add-line-of
+add-line-of c = search needs
+
 line-of-requires : tie.Need-line-of-requires
 line-of-requires c κs = search needs
 
@@ -57,6 +60,7 @@ sum-numbers-spec =
     larger-requires
     array-write-n-7
     array-write-n-8
+    add-line-of
     line-of-requires
     array-write-n-9
     returns)

@@ -1,0 +1,9 @@
+pub mod Playing
+pub mod Ending
+pub mod Leaving
+pub mod Following
+pub mod Streamed
+pub mod Turning
+pub mod Writing
+pub mod Program
+pub mod Unique

@@ -1,0 +1,13 @@
+pub mod Beginning
+pub mod Filling
+pub mod Within
+pub mod Bits
+pub mod Marks
+pub mod Values
+pub mod Sayable
+pub mod Said
+pub mod Back
+pub mod Lengths
+pub mod Writing
+pub mod Reading
+pub mod Rows
