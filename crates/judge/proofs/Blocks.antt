@@ -12,10 +12,11 @@ use Rattle.tally.specs.Tallies.{Roomy}
 use Rattle.engine.specs.Starts.{freshGoing}
 use Rattle.engine.specs.declared.Going.{Going}
 use Rattle.engine.proofs.Starting.{roomy}
+use Rattle.judging.proofs.Hands.{less-roomy}
 use Rattle.streaming.specs.Turns.{mostBlock}
 use Rattle.streaming.specs.Lent.{Resumes, Judged}
 use Rattle.streaming.specs.declared.Turn.{Turn}
-use Rattle.streaming.proofs.Turning.{less-roomy, fresh-resumes, turn-resumes, turn-roomy}
+use Rattle.streaming.proofs.Turning.{fresh-resumes, turn-resumes, turn-roomy}
 
 -- how many blocks are read at most
 abbrev mostBlocks : ℕ

@@ -4,6 +4,7 @@ pub mod Bounds
 pub mod Mission
 pub mod Noon
 pub mod Chunks
+pub mod Hands
 pub mod Reporting
 pub mod Unique
 pub mod Printed

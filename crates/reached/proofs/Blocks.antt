@@ -6,9 +6,6 @@ use mathlib.Core.Path.{_≡_, refl, subst⁻¹, _∙_}
 use native.Mathlib.Omega.{arith}
 use lib.Dec.{T}
 use lib.ListN.{length, take, length-take}
-use Rattle.text.specs.Put.{Put}
-use Rattle.text.proofs.Picks.{order}
-use Rattle.text.proofs.Puts.{put-fits, put-short}
 use Rattle.model.specs.Rows.{wellformed}
 use Rattle.model.specs.States.{fresh}
 use Rattle.model.specs.Sound.{sound}
@@ -23,17 +20,10 @@ use Rattle.engine.specs.Play.{Ready}
 use Rattle.engine.specs.Starts.{freshGoing}
 use Rattle.engine.specs.declared.Going.{Going}
 use Rattle.engine.proofs.Starting.{fresh-ready, roomy}
+use Rattle.judging.proofs.Hands.{less-roomy}
 use Rattle.reaching.specs.Passing.{Turned}
 use Rattle.reaching.specs.declared.Turn.{Turn}
-use Rattle.reaching.proofs.Leaving.{less-roomy}
 use Rattle.reaching.proofs.Program.{turn-sound, turn-roomy}
-
--- what was written from the start of a buffer ends within it
-pub put-within : {buf text after : List ℕ} {r : ℕ} → Put buf 0 text r after → r ≤ length after
-put-within {buf} {text} p =
-    order (length buf) (0 + length text)
-    (λ l. omega (arith, put-short l p .0))
-    (λ l. omega (arith, put-fits l p .0, put-length p))
 
 -- where the table ends lies within the bytes at hand
 pub cut-inside : (block : List ℕ) (have cut : ℕ) → cut ≡ cutOf (take have block) → cut ≤ length block
@@ -66,7 +56,7 @@ reading-start rows index block have h g e = record {
 
 module _ {rows index block₀ block : List ℕ} {g : Going} {have turns : ℕ} (R : Reading rows index block₀ block g have turns) (l : length block₀ ≤ mostBlock) (b : turns < mostBlocks) where
   pub reading-roomy : Roomy (g .tally) have
-  reading-roomy = less-roomy (g .tally) ((mostBlocks - turns) * mostBlock) have (omega (arith, R .within, R .same)) (R .roomy)
+  reading-roomy = less-roomy (R .roomy) (omega (arith, R .within, R .same))
 
   module _ (P : Prepared rows index) (ended : Bool) {r : Turn} {rest : List ℕ} (J : Turned (tableIn rows index) g ended block have r rest) where
     wf : T (wellformed (tableIn rows index))
@@ -74,7 +64,7 @@ module _ {rows index block₀ block : List ℕ} {g : Going} {have turns : ℕ} (
 
     -- the counts behind the turn
     turn-room : (n : ℕ) → have + n ≤ (mostBlocks - turns) * mostBlock → Roomy (r .going .tally) n
-    turn-room n h = turn-roomy J wf n (less-roomy (g .tally) ((mostBlocks - turns) * mostBlock) (have + n) h (R .roomy))
+    turn-room n h = turn-roomy J wf n (less-roomy (R .roomy) h)
 
     -- the answer may be told
     pub reading-ends : T (sound (tableIn rows index) (r .going .state)) × (linesOf (r .going .tally) ≤ mostCount)

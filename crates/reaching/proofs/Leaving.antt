@@ -26,17 +26,8 @@ use Rattle.entries.proofs.Owning.{RowLaws, row-laws}
 use Rattle.tally.specs.Tallies.{rulingOf, tallied, linesOf, began, Roomy}
 use Rattle.tally.specs.declared.Tally.{Tally}
 use Rattle.tally.proofs.Tallying.{wait-counts, sm-counts, step-counts, wait-roomy, sm-roomy, step-roomy, row-roomy}
+use Rattle.judging.proofs.Hands.{less-roomy}
 use Rattle.reaching.specs.Passing.{Passed, pastLine, passed}
-
--- what is left of the room
-pub less-roomy : (c : Tally) (n m : ℕ) → m ≤ n → Roomy c n → Roomy c m
-less-roomy c n m h r = record {
-  lines = omega (arith, r .lines);
-  opened = omega (arith, r .opened);
-  kept = omega (arith, r .kept);
-  dropped = omega (arith, r .dropped);
-  since = omega (arith, r .since);
-}
 
 module _ (K : Table) (R : RowLaws K) where
   module _ (s : State) (c : Tally) (n : ℕ) (r : Roomy c n) (m : ℕ) where
@@ -69,14 +60,14 @@ module _ (K : Table) (R : RowLaws K) where
         (λ f. rw f (cases (accepted (rowRefusal K s p)) (λ a. rw a (row-roomy c n r m (omega arith))) (λ a. rw a less)))
       where
         less : Roomy c m
-        less = less-roomy c n m (omega arith) r
+        less = less-roomy r (omega arith)
 
   -- a line with its newline
   on-line : (l : Line) (s : State) (c : Tally) (p : List ℕ) (n m : ℕ) (go : State → Tally → Passed) → ((w : State) (d : Tally) → Roomy d (n + m) → Roomy (go w d .tally) m)
       → Roomy c (length p + suc n + m) → Roomy (pastLine K s c p l go .tally) m
   on-line line.Bad s c p n m go h r =
       let u = resumed K s c p in
-      let less = less-roomy c (length p + suc n + m) m (omega arith) r in
+      let less = less-roomy {m = m} r (omega arith) in
       cases (beginsRow p)
       (λ b. rw b
       (cases (accepted (u .number))
@@ -86,18 +77,18 @@ module _ (K : Table) (R : RowLaws K) where
   on-line (line.Is x) s c p n m go h r =
       cases (accepted (refusal K s x))
       (λ y. rw y (h (next K s x) (tallied K s x c) (step-leaves s c (length p + suc n + m) r (n + m) x (omega arith))))
-      (λ y. rw y (less-roomy c (length p + suc n + m) m (omega arith) r))
+      (λ y. rw y (less-roomy r (omega arith)))
 
   -- all lines
   lines-leave : (ps : List (List ℕ)) (s : State) (c : Tally) (m : ℕ) → Roomy c (length (joinOn 10 ps) + m) → Roomy (passed K s c ps .tally) m
   unfolding passed
-  lines-leave [] s c m r = less-roomy c (0 + m) m (omega arith) r
-  lines-leave ([] ∷ []) s c m r = less-roomy c (0 + m) m (omega arith) r
-  lines-leave ((b ∷ p) ∷ []) s c m r = less-roomy c (length (b ∷ p) + m) m (omega arith) r
+  lines-leave [] s c m r = less-roomy r (omega arith)
+  lines-leave ([] ∷ []) s c m r = less-roomy r (omega arith)
+  lines-leave ((b ∷ p) ∷ []) s c m r = less-roomy r (omega arith)
   lines-leave (p ∷ q ∷ ps) s c m r =
       on-line (readStep setDigits p) s c p (length (joinOn 10 (q ∷ ps))) m _ (λ w d. lines-leave (q ∷ ps) w d m)
       (subst (λ n. Roomy c (n + m)) (length-append p (10 ∷ joinOn 10 (q ∷ ps))) r)
 
 -- a log
 pub passed-roomy : (K : Table) → T (wellformed K) → (s : State) (c : Tally) (log : List ℕ) (n m : ℕ) → length log ≤ n → Roomy c (n + m) → Roomy (passed K s c (splitOn 10 log) .tally) m
-passed-roomy K wf s c log n m h r = lines-leave K (row-laws K wf) (splitOn 10 log) s c m (less-roomy c (n + m) _ (omega (arith, ap length (join-split 10 log))) r)
+passed-roomy K wf s c log n m h r = lines-leave K (row-laws K wf) (splitOn 10 log) s c m (less-roomy r (omega (arith, ap length (join-split 10 log))))

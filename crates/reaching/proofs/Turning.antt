@@ -2,11 +2,11 @@
 use Prim.Native.Nat.{ℕ, _-_, _≤_, _<_}
 use mathlib.Core.Bool.{Bool, true, false, not}
 use mathlib.Core.List.{List}
-use mathlib.Core.Path.{_≡_, refl, sym, ap, subst, subst⁻¹, _∙_}
+use mathlib.Core.Path.{_≡_, refl, sym, subst, subst⁻¹, _∙_}
 use native.Mathlib.Omega.{arith}
 use lib.Dec.{eqb}
-use lib.ListN.{length, take, length-take}
-use lib.Seq.{slice, take-take, length-take-le}
+use lib.ListN.{length, take}
+use lib.Seq.{slice}
 use denote.Enum.Declared
 use Rattle.text.specs.Parts.{splitOn}
 use Rattle.text.specs.Put.{Put}
@@ -17,20 +17,19 @@ use Rattle.model.proofs.Tests.{true-T}
 use Rattle.tally.specs.Tallies.{Roomy}
 use Rattle.tally.specs.declared.Tally.{Tally}
 use Rattle.engine.specs.Play.{pieces, isClosed, isRow, Ready}
-use Rattle.engine.specs.Starts.{goingAt}
 use Rattle.engine.specs.declared.Stop.{Stop}
 use Rattle.engine.specs.declared.Stop.the-variants.{End, Refused, Closed, Row}
 use Rattle.engine.specs.declared.Going.{Going}
 use Rattle.engine.specs.declared.Ran.{Ran}
 use Rattle.engine.proofs.Stop as kinds
 use Rattle.playing.specs.Plays.{Plays}
+use Rattle.playing.proofs.Resuming.{going-same}
 use Rattle.judging.specs.Report.{refusalOf}
+use Rattle.judging.proofs.Hands.{chunk-bytes}
 use Rattle.stream.specs.Chunk.{chunkEnd}
-use Rattle.stream.proofs.Lines.{chunk-within}
 use Rattle.reaching.specs.Passing.{stays, passed, Passes, isOver, Turned}
 use Rattle.reaching.specs.declared.Ended.{Ended}
 use Rattle.reaching.proofs.Playing.{goneOn, run-gone}
-use Rattle.reaching.proofs.Leaving.{less-roomy}
 
 -- whether it is over, where the input has not ended
 pub over-by : (ended : Bool) (n : ℕ) → ended ≡ false → not (eqb n 0) ≡ isOver ended n
@@ -68,10 +67,6 @@ gone-over K s c (Refused n) rest o r = refl
 gone-over K s c (Closed k) rest o r = absurd (false-true (sym o))
 gone-over K s c Row rest o r = absurd (false-true (sym r))
 
--- a state with what is kept beside it
-going-same : {K : Table} (g : Going) → Ready K g → g ≡ goingAt (g .state) (g .tally)
-going-same g R = rw (← R .busy, ← R .listed)
-
 module _ {K : Table} {log : List ℕ} {g₀ g : Going} {at : ℕ} (l : Left K log g₀ g at) {buf : List ℕ} {r : Ran} {after : List ℕ} (h : Plays K log at g buf 0 r after) where
   -- behind a kept cycle
   module _ (e : Declared.tagOf kinds.the-type (r .stop) ≡ 2) where
@@ -92,30 +87,14 @@ module _ {K : Table} {log : List ℕ} {g₀ g : Going} {at : ℕ} (l : Left K lo
   pub left-over : isClosed (r .stop) ≡ false → {n : ℕ} → n ≡ refusalOf (r .stop) → Passes (passed K (g₀ .state) (g₀ .tally) (splitOn 10 log)) (record { going = r .going; refusal = n })
   left-over o {n} e =
       let w = l .same ∙ run-gone K (h .runs) ∙ gone-over K (r .going .state) (r .going .tally) (r .stop) (pieces log (r .at)) o (h .whole) in
-      subst⁻¹ (λ x. Passes x (record { going = r .going; refusal = n })) w (record { going = going-same (r .going) (h .runs .ready); refusal = e })
+      subst⁻¹ (λ x. Passes x (record { going = r .going; refusal = n })) w (record { going = going-same (h .runs .ready); refusal = e })
 
 -- the lines of a block that are gone through now
 module _ (block : List ℕ) (have : ℕ) (h : have ≤ length block) (ended : Bool) (end : ℕ) (e : end ≡ chunkEnd ended (take have block)) where
-  -- they lie within the bytes at hand
-  chunk-least : end ≤ have
-  chunk-least = omega (arith, chunk-within ended (take have block) end e, length-take-le have block h)
-
-  -- so within the block
-  pub chunk-inside : end ≤ length block
-  chunk-inside = omega (arith, chunk-least)
-
-  -- they are those that the definition takes
-  chunk-bytes : take end block ≡ take (chunkEnd ended (take have block)) (take have block)
-  chunk-bytes = sym (take-take end have block chunk-least) ∙ ap (λ n. take n (take have block)) e
-
-  -- the counts have room for them
-  pub chunk-roomy : (c : Tally) → Roomy c have → Roomy c (length (take end block))
-  chunk-roomy c r = less-roomy c have (length (take end block)) (omega (arith, chunk-least, length-take end block)) r
-
   -- the turn
   pub turned : {K : Table} {g : Going} {x : Ended} → Passes (passed K (g .state) (g .tally) (splitOn 10 (take end block))) x → {done : Bool} → done ≡ isOver ended (x .refusal)
       → {held : ℕ} {rest : List ℕ} → Put block 0 (slice end have block) held rest
       → Turned K g ended block have (record { going = x .going; refusal = x .refusal; held = held; over = done }) rest
   turned {K} {g} {x} p d z =
-      let q = subst (λ b. Passes (passed K (g .state) (g .tally) (splitOn 10 b)) x) chunk-bytes p in
+      let q = subst (λ b. Passes (passed K (g .state) (g .tally) (splitOn 10 b)) x) (chunk-bytes block have h ended end e) p in
       record { going = q .going; refusal = q .refusal; over = d; held = rw e at z }

@@ -6,12 +6,11 @@ use mathlib.Core.Path.{_≡_, refl, sym, ap, subst, subst⁻¹, _∙_}
 use native.Mathlib.Omega.{arith}
 use lib.Dec.{T}
 use lib.ListN.{length, take, length-append, length-take}
-use lib.Seq.{slice, take-take, length-take-le}
+use lib.Seq.{slice}
 use borrow.Author.Tests.{le-leb, not-true, not-false}
 use Rattle.text.specs.Parts.{splitOn}
 use Rattle.text.specs.Put.{Put}
-use Rattle.text.proofs.Picks.{order}
-use Rattle.text.proofs.Puts.{put-fits, put-short, put-nothing}
+use Rattle.text.proofs.Puts.{put-nothing}
 use Rattle.model.specs.Tables.{Table}
 use Rattle.model.specs.Rows.{wellformed}
 use Rattle.model.proofs.Tests.{true-T}
@@ -21,11 +20,11 @@ use Rattle.model.specs.declared.State.{State}
 use Rattle.prepared.specs.Prepared.{tableIn, Prepared}
 use Rattle.entries.proofs.Owning.{RowLaws, row-laws}
 use Rattle.report.specs.Rows.{cycleText, sumText}
-use Rattle.report.proofs.Lines.{put-length, writing-start, writing-put, writing-last}
+use Rattle.report.proofs.Lines.{writing-start, writing-put, writing-last}
 use Rattle.tally.specs.Tallies.{Roomy, sumOf}
 use Rattle.tally.specs.declared.Tally.{Tally}
-use Rattle.engine.specs.Play.{playedTo, played, isClosed, pieces, Ready}
-use Rattle.engine.specs.Starts.{goingAt, freshGoing}
+use Rattle.engine.specs.Play.{playedTo, played, isClosed, pieces}
+use Rattle.engine.specs.Starts.{freshGoing}
 use Rattle.engine.specs.declared.Stop.{Stop}
 use Rattle.engine.specs.declared.Stop.the-variants.{End, Refused, Closed, Row}
 use Rattle.engine.specs.declared.Going.{Going}
@@ -35,10 +34,10 @@ use Rattle.playing.proofs.Resuming.{going-same}
 use Rattle.engine.proofs.Starting.{fresh-ready}
 use Rattle.playing.specs.Plays.{Plays}
 use Rattle.stream.specs.Chunk.{chunkEnd}
-use Rattle.stream.proofs.Lines.{chunk-within}
 use Rattle.judging.specs.Report.{refusalOf}
 use Rattle.judging.proofs.Telling.{tell}
 use Rattle.judging.proofs.Accounts.{pending, none-pending, run-account, run-tells}
+use Rattle.judging.proofs.Hands.{chunk-least, chunk-bytes}
 use Rattle.judging.proofs.Bounds.{tell-bound}
 use Rattle.streaming.specs.Turns.{taken, playedNow, isOver, endText, mostTold}
 use Rattle.streaming.specs.Lent.{Resumes, Turned, Judged}
@@ -57,38 +56,6 @@ module _ (K : Table) (s : State) (c : Tally) (w : Stop) (done : Bool) (out : Lis
 -- the state that a log goes on from
 pub resumes-sound : {K : Table} {g : Going} → Resumes K g → Sound K (g .state)
 resumes-sound {K} {g} R = sound-of K (g .state) (record { tasks = R .tasks; acts = R .acts }) (R .ready .sound)
-
--- what was written from the start of a buffer ends within it
-pub put-within : {buf text after : List ℕ} {r : ℕ} → Put buf 0 text r after → r ≤ length after
-put-within {buf} {text} p =
-    order (length buf) (0 + length text)
-    (λ l. omega (arith, put-short l p .0))
-    (λ l. omega (arith, put-fits l p .0, put-length p))
-
--- room for more is room for less
-pub less-roomy : {c : Tally} {n m : ℕ} → Roomy c n → m ≤ n → Roomy c m
-less-roomy h l = record {
-  lines = omega (arith, h .lines);
-  opened = omega (arith, h .opened);
-  kept = omega (arith, h .kept);
-  dropped = omega (arith, h .dropped);
-  since = omega (arith, h .since);
-}
-
--- the lines judged now lie within the bytes at hand
-module _ (block : List ℕ) (have : ℕ) (h : have ≤ length block) (ended : Bool) (end : ℕ) (e : end ≡ chunkEnd ended (take have block)) where
-  chunk-least : end ≤ have
-  chunk-least = omega (arith, chunk-within ended (take have block) end e, length-take-le have block h)
-
-  pub chunk-inside : end ≤ length block
-  chunk-inside = omega (arith, chunk-least)
-
-  chunk-bytes : take end block ≡ take (chunkEnd ended (take have block)) (take have block)
-  chunk-bytes = sym (take-take end have block chunk-least) ∙ ap (λ n. take n (take have block)) e
-
-  -- the counts have room for them
-  pub chunk-roomy : {c : Tally} → Roomy c have → Roomy c (length (take end block) - 0)
-  chunk-roomy r = less-roomy r (omega (arith, chunk-least, length-take end block))
 
 -- a run over lines for whose rows and `sum` row the buffer has room
 module _ {K : Table} (wf : T (wellformed K)) (R : RowLaws K) (g : Going) (S : Sound K (g .state)) (chunk out : List ℕ)

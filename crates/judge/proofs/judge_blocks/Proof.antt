@@ -5,7 +5,7 @@ use native.Mathlib.Omega.{arith}
 use lib.ListN.{length-replicate}
 use borrow.Author.Needs.{needs}
 use Rattle.text.proofs.Seeking.{part-long}
-use Rattle.streaming.proofs.Turning.{put-within}
+use Rattle.judging.proofs.Hands.{put-within}
 use Rattle.judge.proofs.Blocks.{Reading, reading-start, reading-roomy, reading-small, reading-more}
 use Rattle.judge.proofs.judge_blocks.Statement.{statement}
 use Rattle.judge.proofs.judge_blocks.Tie as tie

@@ -3,7 +3,7 @@ use native.Mathlib.Omega.{arith}
 use borrow.Author.Needs.{needs}
 use Rattle.text.proofs.Seeking.{part-long}
 use Rattle.report.proofs.Lines.{put-length}
-use Rattle.streaming.proofs.Turning.{put-within}
+use Rattle.judging.proofs.Hands.{put-within}
 use Rattle.streaming.proofs.Opening.{opened-accepted}
 use Rattle.judge.proofs.main.Statement.{statement}
 use Rattle.judge.proofs.main.Tie as tie

@@ -3,8 +3,9 @@ use mathlib.Core.List.{[]}
 use native.Mathlib.Omega.{arith}
 use Rattle.text.proofs.Seeking.{part-long}
 use Rattle.report.proofs.Lines.{put-length}
+use Rattle.judging.proofs.Hands.{put-within}
 use Rattle.judging.proofs.Reporting.{read-fine}
-use Rattle.reached.proofs.Blocks.{put-within, cut-inside}
+use Rattle.reached.proofs.Blocks.{cut-inside}
 use borrow.Author.Needs.{needs}
 use Rattle.reached.proofs.main.Statement.{statement}
 use Rattle.reached.proofs.main.Tie as tie

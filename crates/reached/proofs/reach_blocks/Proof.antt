@@ -2,7 +2,8 @@
 use Prim.Native.Nat.{_-_}
 use native.Mathlib.Omega.{arith}
 use borrow.Author.Needs.{needs}
-use Rattle.reached.proofs.Blocks.{put-within, Reading, reading-start, reading-roomy, reading-ends, reading-small, reading-more}
+use Rattle.judging.proofs.Hands.{put-within}
+use Rattle.reached.proofs.Blocks.{Reading, reading-start, reading-roomy, reading-ends, reading-small, reading-more}
 use Rattle.reached.proofs.reach_blocks.Statement.{statement}
 use Rattle.reached.proofs.reach_blocks.Tie as tie
 

@@ -1,6 +1,6 @@
 -- `tell` is safe: what is told lies within its buffer.
 use Rattle.text.proofs.Seeking.{part-long}
-use Rattle.reached.proofs.Blocks.{put-within}
+use Rattle.judging.proofs.Hands.{put-within}
 use borrow.Author.Needs.{needs}
 use Rattle.reached.proofs.tell.Statement.{statement}
 use Rattle.reached.proofs.tell.Tie as tie

@@ -1,7 +1,9 @@
 -- `reach_block` meets its contract.
+use native.Mathlib.Omega.{arith}
 use borrow.Author.Needs.{needs}
 use Rattle.text.proofs.Seeking.{part-long}
-use Rattle.reaching.proofs.Turning.{chunk-inside, chunk-roomy, turned}
+use Rattle.judging.proofs.Hands.{chunk-inside, chunk-roomy}
+use Rattle.reaching.proofs.Turning.{turned}
 use Rattle.reaching.proofs.reach_block.Statement.{statement}
 use Rattle.reaching.proofs.reach_block.Tie as tie
 
@@ -24,7 +26,7 @@ pass-requires : tie.Need-pass-requires
 pass-requires c κs =
     let start = c .before .before .before .before .before .before in
     let pre = start .pre in
-    (pre .0, pre .1, chunk-roomy _ _ (pre .3) (start .args .ended) _ (c .before .chunk-end .ensures) _ (pre .2))
+    (pre .0, pre .1, chunk-roomy _ _ (pre .3) (start .args .ended) _ (c .before .chunk-end .ensures) (pre .2) (omega arith))
 
 to-front-requires : tie.Need-to-front-requires
 to-front-requires c κs = search needs

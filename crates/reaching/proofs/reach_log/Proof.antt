@@ -2,7 +2,7 @@
 use borrow.Author.Needs.{needs}
 use native.Mathlib.Omega.{arith}
 use Rattle.judging.proofs.Reporting.{fresh-start}
-use Rattle.reaching.proofs.Leaving.{less-roomy}
+use Rattle.judging.proofs.Hands.{less-roomy}
 use Rattle.reaching.proofs.Writing.{log-lines, log-refused, log-sound, log-row}
 use Rattle.reaching.proofs.reach_log.Statement.{statement}
 use Rattle.reaching.proofs.reach_log.Tie as tie
@@ -23,7 +23,7 @@ pass-requires : tie.Need-pass-requires
 pass-requires c κs =
     let start = c .before .before .before .before .before .before .before .before in
     let fresh = fresh-start _ (start .args .log .now) _ (c .fresh-going .ensures) (omega arith) in
-    (c .before .before .before .before .index-of .ensures .1, fresh .0, less-roomy _ _ _ (omega arith) (fresh .2))
+    (c .before .before .before .before .index-of .ensures .1, fresh .0, less-roomy (fresh .2) (omega arith))
 
 add-put-pair : tie.Need-add-put-pair
 add-put-pair c =

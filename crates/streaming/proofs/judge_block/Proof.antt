@@ -1,7 +1,9 @@
 -- `judge_block` meets its contract.
+use native.Mathlib.Omega.{arith}
 use borrow.Author.Needs.{needs}
 use Rattle.text.proofs.Seeking.{part-long}
-use Rattle.streaming.proofs.Turning.{chunk-inside, chunk-roomy, turned}
+use Rattle.judging.proofs.Hands.{chunk-inside, chunk-roomy}
+use Rattle.streaming.proofs.Turning.{turned}
 use Rattle.streaming.proofs.judge_block.Statement.{statement}
 use Rattle.streaming.proofs.judge_block.Tie as tie
 
@@ -24,7 +26,7 @@ play-requires : tie.Need-play-requires
 play-requires c κs =
     let start = c .before .before .before .before .before .before .before .before in
     let pre = start .pre in
-    (pre .0, pre .1 .ready, search needs, chunk-roomy _ _ (pre .3) (start .args .ended) _ (c .before .before .chunk-end .ensures) (pre .2), search needs)
+    (pre .0, pre .1 .ready, search needs, chunk-roomy _ _ (pre .3) (start .args .ended) _ (c .before .before .chunk-end .ensures) (pre .2) (omega arith), search needs)
 
 is-over-requires : tie.Need-is-over-requires
 is-over-requires c κs = search needs
