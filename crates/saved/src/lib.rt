@@ -1,14 +1,16 @@
 // The `state` row: every field of a state in one line of a log, read and written. Which fields a task's part and an activity's part have is
 // described once; a table's counts say how many parts there are.
 ghost use mathlib.Core.Path.{_≡_};
-ghost use Prim.Native.Nat.{_+_, _*_, _^_, _<_, _≤_};
-ghost use lib.ListN.{length, getD};
+ghost use Prim.Native.Nat.{_+_, _<_, _≤_};
+ghost use lib.ListN.{length};
 ghost use lib.Seq.{sets};
 ghost use lib.Dec.{T};
-ghost use Rattle.model.specs.Tests.{one, each};
+ghost use Rattle.model.specs.Tests.{one};
+ghost use Rattle.model.specs.Limits.{mostTasks, mostActs};
 ghost use Rattle.model.specs.Sound.{sound};
+ghost use Rattle.log.specs.Lines.{longestRow};
 ghost use Rattle.prepared.specs.Prepared.{tableIn, Prepared};
-ghost use Rattle.saved.specs.Rows.{mostValues, holderOf, placeOf, holderValue, placeValue, setAt, taskFrom, actFrom, stateFrom, setsWithin, readState, refused, bitOf, runBits, haltBits, taskValues, actValues, beginsRow, rowText};
+ghost use Rattle.saved.specs.Rows.{taskFields, actFields, mostValues, holderOf, placeOf, holderValue, placeValue, setAt, taskFrom, actFrom, stateFrom, setsWithin, readState, refused, bitOf, taskValues, actValues, beginsRow, rowText};
 ghost use Rattle.saved.specs.Written.{Whole, tasksFrom, actsFrom, Marked, tasksText, actsText, longestTasks, longestActs};
 use fields::End;
 use model::Act;
@@ -132,7 +134,7 @@ fn set_at(values: &[u64], i: usize) -> Set
 
 // The record of a task, whose values stand from a place on.
 fn task_from(values: &[u64], at: usize) -> Task
-    requires { ⌜ at + 10 ≤ length (now values) ⌝ }
+    requires { ⌜ at + taskFields ≤ length (now values) ⌝ }
     ensures { λ r. ⌜ r ≡ taskFrom (now (values .entry)) at ⌝ }
 {
     Task {
@@ -149,7 +151,7 @@ fn task_from(values: &[u64], at: usize) -> Task
 
 // The record of the activity a, whose values stand from a place on, with its task's sets N and R.
 fn act_from(values: &[u64], at: usize, a: usize, n: Set, r: Set) -> Act
-    requires { ⌜ at + 3 ≤ length (now values) ⌝ }
+    requires { ⌜ at + actFields ≤ length (now values) ⌝ }
     ensures { λ y. ⌜ y ≡ actFrom (now (values .entry)) at a n r ⌝ }
 {
     Act {
@@ -163,7 +165,7 @@ fn act_from(values: &[u64], at: usize, a: usize, n: Set, r: Set) -> Act
 
 // The state's tasks: the table's as the values say, fresh behind them.
 fn with_tasks(nt: usize, values: &[u64], s: State) -> State
-    requires { ⌜ (nt ≤ 16) × (length (now values) ≡ mostValues) ⌝ }
+    requires { ⌜ (nt ≤ mostTasks) × (length (now values) ≡ mostValues) ⌝ }
     ensures { λ r. ⌜ r ≡ tasksFrom (now (values .entry)) nt s ⌝ }
 {
     let mut z = s;
@@ -284,7 +286,7 @@ fn yes_value(b: bool) -> u64
 
 // The bit of an activity in a set, where it is a member.
 fn bit_of(b: bool, a: usize) -> u64
-    requires { ⌜ a < 64 ⌝ }
+    requires { ⌜ a < mostActs ⌝ }
     ensures { λ r. ⌜ r ≡ bitOf b a ⌝ }
 {
     if b {
@@ -383,7 +385,7 @@ fn put_acts(rows: &[u32], index: &[u32], buf: &mut [u8], at: usize, s: State) ->
 
 // Writes a sound state's row at the front of a buffer that has room for any, and answers its length.
 pub fn put_state(rows: &[u32], index: &[u32], s: State, buf: &mut [u8]) -> usize
-    requires { ⌜ Prepared (now rows) (now index) × T (sound (tableIn (now rows) (now index)) s) × (4095 ≤ length (now buf)) ⌝ }
+    requires { ⌜ Prepared (now rows) (now index) × T (sound (tableIn (now rows) (now index)) s) × (longestRow ≤ length (now buf)) ⌝ }
     ensures { λ r. ⌜ (r ≡ length (rowText (tableIn (now (rows .entry)) (now (index .entry))) s)) × (now (buf .exit) ≡ sets (now (buf .entry)) 0 (rowText (tableIn (now (rows .entry)) (now (index .entry))) s)) ⌝ }
 {
     let w = text::put_bytes(buf, 0, b"state");
