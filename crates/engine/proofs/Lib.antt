@@ -1,6 +1,7 @@
 pub mod Lines
 pub mod Pausing
 pub mod Runs
+pub mod Passing
 pub mod Waiting
 pub mod Naming
 pub mod Managing

@@ -1,16 +1,16 @@
 -- The line at a place of a log, and what playing on from there up to a `state` row comes to, with so much room for rows.
 use Prim.Native.Nat.{ℕ, _+_, _-_, _≤_, _<_}
-use mathlib.Core.Bool.{true}
+use mathlib.Core.Bool.{true, false}
 use mathlib.Core.List.{List, [], _∷_}
-use mathlib.Core.Path.{_≡_, refl, ap, sym, subst, subst⁻¹, _∙_}
+use mathlib.Core.Path.{_≡_, refl, ap, sym, subst⁻¹, _∙_}
 use native.Mathlib.Omega.{arith}
 use lib.Dec.{T, eqb}
 use lib.ListN.{length, take, drop, length-drop, drop-of-length-le}
 use lib.Seq.{length-take-le}
-use borrow.Author.Tests.{le-ltb, eq-eqb, ne-eqb}
+use borrow.Author.Tests.{le-ltb, eq-eqb, ne-eqb, eqb-false}
 use Rattle.text.specs.Parts.{firstAt, partsFrom}
 use Rattle.text.proofs.Parts.{parts-cut, parts-none}
-use Rattle.text.proofs.Picks.{cases, order}
+use Rattle.text.proofs.Picks.{cases, order, passed, false-true}
 use Rattle.text.proofs.Seeking.{part-ends}
 use Rattle.model.specs.Tables.{Table}
 use Rattle.model.specs.declared.State.{State}
@@ -19,10 +19,13 @@ use Rattle.model.specs.declared.Line.the-variants.{Is, Bad}
 use Rattle.log.specs.Lines.{setDigits, readStep}
 use Rattle.log.proofs.Shapes.{no-step}
 use Rattle.saved.specs.Rows.{beginsRow}
-use Rattle.engine.specs.Play.{Played, pieces, stopped, onStep, upToRow, paused, isClosed, isRow, AtRow}
-use Rattle.engine.specs.Turns.{lineAt, rowOr}
+use Rattle.saved.proofs.Rows.{begins-no-step}
+use Rattle.engine.specs.Play.{Played, pieces, stopped, onStep, goesBy, upToRow, paused, isClosed, isRow, AtRow}
+use Rattle.engine.specs.Turns.{lineAt, passesAt, rowOr, stopAt}
+use Rattle.tally.specs.Tallies.{afterRow}
 use Rattle.tally.specs.declared.Tally.{Tally}
 use Rattle.engine.specs.declared.Stop.the-variants.{End, Refused}
+use Rattle.engine.proofs.Pausing.{row-goes}
 
 -- the lines from a place on: that up to the first newline, then the others
 from-here : (log : List ℕ) (at e : ℕ) → at ≤ length log → e ≡ firstAt log at 10 → pieces log at ≡ take (e - at) (drop at log) ∷ partsFrom 10 log (e + 1)
@@ -75,11 +78,23 @@ module _ (K : Table) (s : State) (c : Tally) (room : ℕ) (log : List ℕ) where
         let t = part-ends log at e 10 before-end f in
         subst⁻¹ (λ ps. paused K s c room ps ≡ stopped s c (Refused 11) ps) q (one-last p (omega (arith, length-take-le (e - at) (drop at log) (omega arith))))
 
-    -- not a step
-    pub at-unread : lineAt log at e ≡ Bad → paused K s c room (pieces log at) ≡ stopped s c (rowOr log at e 11) (pieces log at)
-    at-unread b =
+    not-end : e < length log → e ≡ length log → ⊥
+    not-end l z = omega arith
+
+    -- a row that goes by
+    pub at-passed : passesAt K s c log at e ≡ true → (e < length log) × (paused K s c room (pieces log at) ≡ paused K s (afterRow c) room (pieces log (e + 1)))
+    at-passed y =
+        let q = passed (eqb e (length log)) false-true y in
+        let n : e ≡ length log → ⊥ = eqb-false e (length log) (q .0) in
+        let l : e < length log = omega (arith, part-ends log at e 10 before-end f, n) in
+        let i : lineAt log at e ≡ Bad = rw (q .0) (begins-no-step setDigits _ (row-goes K s c _ (q .1) .0)) in
+        (l, ended l ∙ rw (i, q .1))
+
+    -- neither a step nor such a row
+    pub at-unread : lineAt log at e ≡ Bad → passesAt K s c log at e ≡ false → paused K s c room (pieces log at) ≡ stopped s c (rowOr log at e 11) (pieces log at)
+    at-unread b y =
         order e (length log)
-        (λ l. let ne : e ≡ length log → ⊥ = λ z. omega arith in ended l ∙ rw (b, ne-eqb _ _ ne))
+        (λ l. let o = ne-eqb e (length log) (not-end l) in let z : goesBy K s c (take (e - at) (drop at log)) ≡ false = rw o at y in ended l ∙ rw (b, o, z))
         (λ l. let q : e ≡ length log = omega (arith, part-ends log at e 10 before-end f) in open-ended l ∙ rw (eq-eqb _ _ q))
 
     module _ (x : Step) (i : lineAt log at e ≡ Is x) where
@@ -92,20 +107,39 @@ module _ (K : Table) (s : State) (c : Tally) (room : ℕ) (log : List ℕ) where
       pub at-step : paused K s c room (pieces log at) ≡ onStep K s c room x (pieces log at) (pieces log (e + 1)) (λ w d n. paused K w d n (pieces log (e + 1)))
       at-step = ended step-ends ∙ rw i
 
--- a line that is no step closes no cycle
-pub unread-unclosed : {P : Type 0} (log : List ℕ) (at e : ℕ) → T (isClosed (rowOr log at e 11)) → P
-unread-unclosed log at e t =
-    cases (eqb e (length log))
-    (λ h. absurd (rw h at t))
-    (λ h. cases (beginsRow (take (e - at) (drop at log))) (λ y. absurd (rw (h, y) at t)) (λ y. absurd (rw (h, y) at t)))
+-- a step's line is no row
+pub step-stays : (K : Table) (s : State) (c : Tally) (log : List ℕ) (at e : ℕ) (x : Step) → lineAt log at e ≡ Is x → passesAt K s c log at e ≡ false
+step-stays K s c log at e x i =
+    cases (passesAt K s c log at e)
+    (λ y.
+    let q = passed (eqb e (length log)) false-true y in
+    let b : lineAt log at e ≡ Bad = rw (q .0) (begins-no-step setDigits _ (row-goes K s c _ (q .1) .0)) in
+    absurd (no-step (sym b ∙ i)))
+    (λ y. y)
 
--- a run that leaves at a row: it stands there with its newline
-pub row-there : (log : List ℕ) (at e : ℕ) → at < length log → e ≡ firstAt log at 10 → T (isRow (rowOr log at e 11)) → AtRow log at
-row-there log at e h f t =
-    order e (length log)
-    (λ l.
-    let ne : e ≡ length log → ⊥ = λ z. omega arith in
-    cases (beginsRow (take (e - at) (drop at log)))
-    (λ y. record { ends = omega (arith, f); begins = subst (λ e. beginsRow (take (e - at) (drop at log)) ≡ true) f y })
-    (λ y. absurd (rw (ne-eqb _ _ ne, y) at t)))
-    (λ l. let q : e ≡ length log = omega (arith, part-ends log at e 10 (omega arith) f) in absurd (rw (eq-eqb _ _ q) at t))
+-- nor is there one at the end
+pub end-stays : (K : Table) (s : State) (c : Tally) (log : List ℕ) (at : ℕ) → length log ≤ at → at ≤ length log → passesAt K s c log at (firstAt log at 10) ≡ false
+end-stays K s c log at h l = let z : at + 0 ≡ length log = omega arith in rw (drop-of-length-le log h, eq-eqb _ _ z)
+
+-- a run that no lack of room stopped closes no cycle there
+pub stop-unclosed : {P : Type 0} (log : List ℕ) (at n : ℕ) → T (isClosed (stopAt log at n)) → P
+stop-unclosed log at n t =
+    cases (eqb n 0)
+    (λ z. absurd (rw z at t))
+    (λ z.
+    cases (eqb (firstAt log at 10) (length log))
+    (λ h. absurd (rw (z, h) at t))
+    (λ h. cases (beginsRow (take (firstAt log at 10 - at) (drop at log))) (λ y. absurd (rw (z, h, y) at t)) (λ y. absurd (rw (z, h, y) at t))))
+
+-- where it leaves at a row, that stands there with its newline
+pub row-there : (log : List ℕ) (at n : ℕ) → at ≤ length log → T (isRow (stopAt log at n)) → AtRow log at
+row-there log at n l t =
+    cases (eqb n 0)
+    (λ z. absurd (rw z at t))
+    (λ z.
+    cases (eqb (firstAt log at 10) (length log))
+    (λ h. absurd (rw (z, h) at t))
+    (λ h.
+    cases (beginsRow (take (firstAt log at 10 - at) (drop at log)))
+    (λ y. record { ends = omega (arith, part-ends log at _ 10 l refl, eqb-false (firstAt log at 10) (length log) h); begins = y })
+    (λ y. absurd (rw (z, h, y) at t))))

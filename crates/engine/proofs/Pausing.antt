@@ -1,12 +1,12 @@
 -- A log played up to its first `state` row, and from there on: together what the log comes to.
 use Prim.Native.Nat.{ℕ, _-_}
-use mathlib.Core.Bool.{false}
+use mathlib.Core.Bool.{true, false}
 use mathlib.Core.List.{List, [], _∷_, _++_, append-assoc}
 use mathlib.Core.Path.{_≡_, refl, ap, sym, _∙_}
 use native.Mathlib.Omega.{arith}
-use lib.Dec.{leb}
+use lib.Dec.{leb, eqb}
 use lib.ListN.{length, length-append}
-use Rattle.text.proofs.Picks.{cases, false-true}
+use Rattle.text.proofs.Picks.{cases, picked, passed, false-true}
 use Rattle.model.specs.Tests.{accepted}
 use Rattle.model.specs.Tables.{Table}
 use Rattle.model.specs.Rules.{refusal, next}
@@ -17,16 +17,25 @@ use Rattle.model.specs.declared.Line.{Line}
 use Rattle.model.specs.declared.Line.the-variants.{Is, Bad}
 use Rattle.log.specs.Lines.{setDigits, readStep}
 use Rattle.saved.specs.Rows.{beginsRow}
+use Rattle.entries.specs.Entries.{stays, resumed}
 use Rattle.report.specs.Rows.{cycleOf, cycleText}
-use Rattle.tally.specs.Tallies.{tallied}
+use Rattle.tally.specs.Tallies.{linesOf, afterRow, tallied}
 use Rattle.tally.specs.declared.Tally.{Tally}
-use Rattle.engine.specs.Play.{Played, playedTo, telling, onVerdict, onStep, upToRow, played, paused, isRow, leftWith}
+use Rattle.engine.specs.Play.{Played, playedTo, telling, onVerdict, onStep, goesBy, upToRow, played, paused, isRow, leftWith}
 use Rattle.engine.specs.declared.Stop.{Stop}
 use Rattle.engine.specs.declared.Stop.the-variants.{End, Refused, Closed, Row}
 
 -- rows told before a row more
 pub telling-more : (text row : List ℕ) (p : Played) → telling text (telling row p) ≡ telling (text ++ row) p
 telling-more text row p = ap (λ l. playedTo l (p .state) (p .tally) (p .stop) (p .rest)) (sym (append-assoc text row (p .text)))
+
+-- a row that goes by is taken, and only counts as a line
+pub row-goes : (K : Table) (s : State) (c : Tally) (p : List ℕ) → goesBy K s c p ≡ true → (beginsRow p ≡ true) × (resumed K s c p ≡ stays 0 s (afterRow c))
+unfolding goesBy resumed
+row-goes K s c p e =
+    let b = picked (beginsRow p) false-true e in
+    let l = passed (eqb (linesOf c) 0) false-true (b .1) in
+    (b .0, rw (l .0, l .1))
 
 module _ (K : Table) where
   -- a run that leaves at no row is over
@@ -79,7 +88,10 @@ module _ (K : Table) where
   on-line : (p q : List ℕ) (ps : List (List ℕ)) → ((w : State) (d : Tally) (n : ℕ) → played K w d n (q ∷ ps) ≡ playedOn n (paused K w d n (q ∷ ps))) → (s : State) (c : Tally) (room : ℕ) (x : Line) → readStep setDigits p ≡ x
       → played K s c room (p ∷ q ∷ ps) ≡ playedOn room (upToRow K s c room p x (p ∷ q ∷ ps) (q ∷ ps) (λ w d n. paused K w d n (q ∷ ps)))
   unfolding played
-  on-line p q ps h s c room Bad e = cases (beginsRow p) (λ y. rw y (from-row s c room (p ∷ q ∷ ps))) (λ y. rw (e, y))
+  on-line p q ps h s c room Bad e =
+      cases (goesBy K s c p)
+      (λ y. let r = row-goes K s c p y in rw (e, y, r .0, r .1) (h s (afterRow c) room))
+      (λ z. cases (beginsRow p) (λ y. rw (z, y) (from-row s c room (p ∷ q ∷ ps))) (λ y. rw (z, e, y)))
   on-line p q ps h s c room (Is x) e = rw e (on-step s c room x (p ∷ q ∷ ps) (q ∷ ps) (λ w d n. played K w d n (q ∷ ps)) (λ w d n. paused K w d n (q ∷ ps)) h)
 
   -- what a log comes to is what it comes to from its first row on, behind what it came to up to there

@@ -1,5 +1,6 @@
 -- A run, line after line: what its loop keeps, where it stops, how an accepted step takes it on, and how the row of a kept cycle is told.
 use Prim.Native.Nat.{ℕ, _+_, _-_, _≤_, _<_}
+use mathlib.Core.Bool.{true, false}
 use mathlib.Core.List.{List, [], _∷_, _++_, append-nil}
 use mathlib.Core.Path.{_≡_, refl, ap, sym, subst⁻¹, _∙_}
 use native.Mathlib.Omega.{arith}
@@ -11,7 +12,7 @@ use lib.ListN.{length, length-map, length-append}
 use lib.Seq.{sets, length-sets}
 use Rattle.text.specs.Parts.{firstAt}
 use Rattle.text.specs.Put.{Put}
-use Rattle.text.proofs.Picks.{order}
+use Rattle.text.proofs.Picks.{order, false-true}
 use Rattle.text.proofs.Puts.{put-fits, put-short, sets-append}
 use Rattle.text.proofs.Seeking.{part-starts}
 use Rattle.model.specs.Limits.{mostActs}
@@ -32,21 +33,21 @@ use Rattle.managing.specs.Listed.{listedOf, listedIn}
 use Rattle.report.specs.Rows.{cycleOf, cycleText}
 use Rattle.report.specs.declared.Cycle.{Cycle}
 use Rattle.report.proofs.Lines.{put-length, row-some}
-use Rattle.tally.specs.Tallies.{rulingOf, tallied, Roomy}
+use Rattle.tally.specs.Tallies.{afterRow, rulingOf, tallied, Roomy}
 use Rattle.engine.specs.Play.{Played, playedTo, pieces, stopped, telling, onKept, onVerdict, onStep, paused, ranOf, Ready, isClosed, isRow, AtRow, Pauses}
-use Rattle.engine.specs.Turns.{lineAt, rowOr, stopAt}
+use Rattle.engine.specs.Turns.{lineAt, passesAt, stopAt}
 use Rattle.tally.specs.declared.Tally.{Tally}
 use Rattle.tally.specs.declared.Ruling.{Ruling}
 use Rattle.tally.specs.declared.Ruling.the-variants.{Kept}
 use Rattle.engine.specs.declared.Stop.{Stop}
-use Rattle.engine.specs.declared.Stop.the-variants.{End, Refused, Closed}
+use Rattle.engine.specs.declared.Stop.the-variants.{Refused, Closed}
 use Rattle.engine.specs.declared.Going.{Going}
 use Rattle.engine.specs.declared.Ran.{Ran}
 use Rattle.tally.proofs.Ruling.{the-type}
 use Rattle.engine.proofs.Answers.{stop-step}
-use Rattle.engine.proofs.Lines.{at-end, at-unread, step-ends, at-step, unread-unclosed, row-there}
+use Rattle.engine.proofs.Lines.{at-end, at-passed, at-unread, step-ends, at-step, step-stays, end-stays, stop-unclosed, row-there}
 use Rattle.engine.proofs.Pausing.{telling-more, playedOn, plays-on}
-use Rattle.tally.proofs.Tallying.{roomy-one}
+use Rattle.tally.proofs.Tallying.{roomy-one, row-roomy}
 
 -- what holds where a line starts: the state is sound, what is kept beside it agrees, and there is room to count the lines left
 pub record Stands (K : Table) (log : List ℕ) (from : ℕ) (s : State) (b l : List ℕ) (c : Tally) (at : ℕ) : Type 0 where
@@ -75,6 +76,12 @@ pub record Continues (K : Table) (log : List ℕ) (from : ℕ) (s₀ : State) (c
   pub plays : Plays K log from s₀ c₀ lent place s b l c at buf filled
   pub none : n ≡ 0
 
+-- and the run stops at the line there, with so much as its refusal, unless that is a row that goes by
+pub record Halts (K : Table) (log : List ℕ) (from : ℕ) (s₀ : State) (c₀ : Tally) (lent : List ℕ) (place : ℕ) (s : State) (b l : List ℕ) (c : Tally) (at : ℕ) (buf : List ℕ) (filled n : ℕ) : Type 0 where
+  pub plays : Plays K log from s₀ c₀ lent place s b l c at buf filled
+  pub stays : passesAt K s c log at (firstAt log at 10) ≡ false → paused K s c (length lent - filled) (pieces log at) ≡ stopped s c (stopAt log at n) (pieces log at)
+  pub stands : (n ≡ 11 → ⊥) → passesAt K s c log at (firstAt log at 10) ≡ false
+
 -- rows told before nothing
 telling-none : (text : List ℕ) (s : State) (c : Tally) (w : Stop) (ps : List (List ℕ)) → telling text (stopped s c w ps) ≡ playedTo text s c w ps
 telling-none text s c w ps = ap (λ l. playedTo l s c w ps) (append-nil text)
@@ -94,30 +101,84 @@ rows-kept {lent} {place = place} R = ap length (R .bytes) ∙ length-sets lent p
 rows-more : {lent buf : List ℕ} {place end : ℕ} (R : Rows lent place buf end) (row : List ℕ) → sets buf end row ≡ sets lent place (R .text ++ row)
 rows-more {lent} {place = place} R row = rw (R .bytes, R .filled) (sym (sets-append lent place (R .text) row))
 
--- a run that leaves where a line starts
-module _ (K : Table) (log : List ℕ) (from : ℕ) (g : Going) {lent : List ℕ} {place : ℕ} {s : State} {b l : List ℕ} {c : Tally} {at : ℕ} {buf : List ℕ} {filled : ℕ}
-    (H : Stands K log from s b l c at) (R : Rows lent place buf filled) where
-  stops-at : (w : Stop) → telling (R .text) (stopped s c w (pieces log at)) ≡ paused K (g .state) (g .tally) (length lent - place) (pieces log from) → (T (isClosed w) → from < at) → (T (isRow w) → AtRow log at)
-      → (r : Ran) → r ≡ ranOf s b l c at filled w → Pauses K log from g lent place r buf
-  stops-at w e n o r q =
-      let p : playedTo (R .text) s c w (pieces log at) ≡ paused K (g .state) (g .tally) (length lent - place) (pieces log from) = sym (telling-none (R .text) s c w (pieces log at)) ∙ e in
-      let room : length lent - (place + length (R .text)) ≡ length lent - place - length (R .text) = omega arith in
-      subst⁻¹ (λ r. Pauses K log from g lent place r buf) q (record {
-        runs = record {
-          text = R .text;
-          played = rw room (ap (playedOn K (length lent - place)) p ∙ sym (plays-on K (pieces log from) (g .state) (g .tally) (length lent - place)));
-          fits = R .fits;
-          filled = R .filled;
-          bytes = R .bytes;
-          within = H .onward;
-          inside = H .within;
-          atRow = o;
-          onward = n;
-          ready = record { sound = of-sound K s (H .sound); busy = H .busy; listed = H .listed };
-          roomy = H .roomy;
+-- a run that leaves where a line starts, and why
+pub record Leaves (K : Table) (log : List ℕ) (from : ℕ) (s₀ : State) (c₀ : Tally) (lent : List ℕ) (place : ℕ) (s : State) (b l : List ℕ) (c : Tally) (at : ℕ) (buf : List ℕ) (filled : ℕ) (w : Stop) : Type 0 where
+  pub here : Stands K log from s b l c at
+  pub rows : Rows lent place buf filled
+  pub rest : telling (rows .text) (stopped s c w (pieces log at)) ≡ paused K s₀ c₀ (length lent - place) (pieces log from)
+  pub onward : T (isClosed w) → from < at
+  pub atRow : T (isRow w) → AtRow log at
+
+-- what it then answers
+pub run-answers : {K : Table} {log : List ℕ} {from : ℕ} {g : Going} {lent : List ℕ} {place : ℕ} {s : State} {b l : List ℕ} {c : Tally} {at : ℕ} {buf : List ℕ} {filled : ℕ} {w : Stop}
+    → Leaves K log from (g .state) (g .tally) lent place s b l c at buf filled w → {r : Ran} → r ≡ ranOf s b l c at filled w → Pauses K log from g lent place r buf
+run-answers {K} {log} {from} {g} {lent} {place} {s} {b} {l} {c} {at} {buf} {filled} {w} L q =
+    let H = L .here in
+    let R = L .rows in
+    let p : playedTo (R .text) s c w (pieces log at) ≡ paused K (g .state) (g .tally) (length lent - place) (pieces log from) = sym (telling-none (R .text) s c w (pieces log at)) ∙ L .rest in
+    let room : length lent - (place + length (R .text)) ≡ length lent - place - length (R .text) = omega arith in
+    subst⁻¹ (λ r. Pauses K log from g lent place r buf) q (record {
+      runs = record {
+        text = R .text;
+        played = rw room (ap (playedOn K (length lent - place)) p ∙ sym (plays-on K (pieces log from) (g .state) (g .tally) (length lent - place)));
+        fits = R .fits;
+        filled = R .filled;
+        bytes = R .bytes;
+        within = H .onward;
+        inside = H .within;
+        atRow = L .atRow;
+        onward = L .onward;
+        ready = record { sound = of-sound K s (H .sound); busy = H .busy; listed = H .listed };
+        roomy = H .roomy;
+      };
+      paused = p;
+    })
+
+-- A run that is taken up again where it had come to: what it comes to from there, it comes to from the start.
+module _ {K : Table} {log : List ℕ} {from : ℕ} {s₀ : State} {c₀ : Tally} {lent : List ℕ} {place : ℕ} {s₁ : State} {b₁ l₁ : List ℕ} {c₁ : Tally} {at₁ : ℕ} {buf₁ : List ℕ} {filled₁ : ℕ}
+    (O : Plays K log from s₀ c₀ lent place s₁ b₁ l₁ c₁ at₁ buf₁ filled₁) where
+  size-kept : length buf₁ ≡ length lent
+  size-kept = rows-kept (O .rows)
+
+  -- before it goes on
+  pub taken-up : {n : ℕ} → n ≡ 0 → Continues K log at₁ s₁ c₁ buf₁ filled₁ s₁ b₁ l₁ c₁ at₁ buf₁ filled₁ n
+  taken-up z =
+      let H = O .here in
+      record {
+        plays = record {
+          here = record { within = H .within; onward = omega arith; sound = H .sound; busy = H .busy; listed = H .listed; roomy = H .roomy };
+          rows = record { text = []; fits = omega (arith, O .rows .fits, O .rows .filled, size-kept); filled = omega arith; bytes = refl };
+          rest = refl;
         };
-        paused = p;
-      })
+        none = z;
+      }
+
+  module _ {buf : List ℕ} {filled : ℕ} (R : Rows buf₁ filled₁ buf filled) where
+    abbrev rows-joined : Rows lent place buf filled
+    rows-joined =
+        let n = length-append (O .rows .text) (R .text) in
+        record {
+          text = O .rows .text ++ R .text;
+          fits = omega (arith, R .fits, O .rows .filled, size-kept);
+          filled = omega (arith, R .filled, O .rows .filled);
+          bytes = R .bytes ∙ rows-more (O .rows) (R .text);
+        }
+
+    rest-joined : (p : Played) → telling (R .text) p ≡ paused K s₁ c₁ (length buf₁ - filled₁) (pieces log at₁) → telling (O .rows .text ++ R .text) p ≡ paused K s₀ c₀ (length lent - place) (pieces log from)
+    rest-joined p e = sym (telling-more (O .rows .text) (R .text) p) ∙ ap (telling (O .rows .text)) (e ∙ rw size-kept) ∙ O .rest
+
+  module _ {s : State} {b l : List ℕ} {c : Tally} {at : ℕ} where
+    stands-joined : Stands K log at₁ s b l c at → Stands K log from s b l c at
+    stands-joined H = record { within = H .within; onward = omega (arith, H .onward, O .here .onward); sound = H .sound; busy = H .busy; listed = H .listed; roomy = H .roomy }
+
+    pub plays-joined : {buf : List ℕ} {filled : ℕ} → Plays K log at₁ s₁ c₁ buf₁ filled₁ s b l c at buf filled → Plays K log from s₀ c₀ lent place s b l c at buf filled
+    plays-joined {filled = filled} Z = record { here = stands-joined (Z .here); rows = rows-joined (Z .rows); rest = rest-joined (Z .rows) _ (rw (← size-kept) (Z .rest)) }
+
+    pub halts-joined : {buf : List ℕ} {filled n : ℕ} → Halts K log at₁ s₁ c₁ buf₁ filled₁ s b l c at buf filled n → Halts K log from s₀ c₀ lent place s b l c at buf filled n
+    halts-joined H = record { plays = plays-joined (H .plays); stays = λ y. rw (← size-kept) (H .stays y); stands = H .stands }
+
+    pub leaves-joined : {buf : List ℕ} {filled : ℕ} {w : Stop} → Leaves K log at₁ s₁ c₁ buf₁ filled₁ s b l c at buf filled w → Leaves K log from s₀ c₀ lent place s b l c at buf filled w
+    leaves-joined L = record { here = stands-joined (L .here); rows = rows-joined (L .rows); rest = rest-joined (L .rows) _ (L .rest); onward = λ t. omega (arith, L .onward t, O .here .onward); atRow = L .atRow }
 
 module _ (K : Table) (log : List ℕ) (from : ℕ) (g : Going) (lent : List ℕ) (place : ℕ) where
   -- the start
@@ -128,20 +189,62 @@ module _ (K : Table) (log : List ℕ) (from : ℕ) (g : Going) (lent : List ℕ)
     none = refl;
   }
 
-  module _ {s : State} {b l : List ℕ} {c : Tally} {at : ℕ} {buf : List ℕ} {filled : ℕ} (Z : Plays K log from (g .state) (g .tally) lent place s b l c at buf filled) (r : Ran) where
-    -- it stops at a line
-    stops-here : (w : Stop) → paused K s c (length lent - filled) (pieces log at) ≡ stopped s c w (pieces log at) → (T (isClosed w) → from < at) → (T (isRow w) → AtRow log at) → r ≡ ranOf s b l c at filled w
-        → Pauses K log from g lent place r buf
-    stops-here w e n o = stops-at K log from g (Z .here) (Z .rows) w (ap (telling (Z .rows .text)) (sym e) ∙ Z .rest) n o r
+  module _ {s : State} {b l : List ℕ} {c : Tally} {at : ℕ} {buf : List ℕ} {filled : ℕ} where
+    -- at the log's end
+    pub halts-end : Plays K log from (g .state) (g .tally) lent place s b l c at buf filled → length log ≤ at → {n m : ℕ} → n ≡ m → m ≡ 0
+        → Halts K log from (g .state) (g .tally) lent place s b l c at buf filled n
+    halts-end Z h e z = record {
+      plays = Z;
+      stays = λ y. at-end K s c (length lent - filled) log at h ∙ rw (e, z);
+      stands = λ y. end-stays K s c log at h (Z .here .within);
+    }
 
-    -- the log's end
-    pub run-ends : length log ≤ at → {n m : ℕ} → n ≡ m → m ≡ 0 → {w : Stop} → w ≡ stopAt log at n → r ≡ ranOf s b l c at filled w → Pauses K log from g lent place r buf
-    run-ends h e z p q = stops-here End (at-end K s c (length lent - filled) log at h) (λ t. absurd t) (λ t. absurd t) (q ∙ rw (p, e, z))
+    -- at a line that is no step
+    pub halts-unread : Plays K log from (g .state) (g .tally) lent place s b l c at buf filled → (e : ℕ) → at < length log → e ≡ firstAt log at 10 → (x : Line) → x ≡ lineAt log at e → x ≡ Bad → {n : ℕ} → n ≡ 11
+        → Halts K log from (g .state) (g .tally) lent place s b l c at buf filled n
+    halts-unread Z e h f x q i z = record {
+      plays = Z;
+      stays = λ y. at-unread K s c (length lent - filled) log at e h f (sym q ∙ i) (rw f y) ∙ rw (z, f);
+      stands = λ y. absurd (y z);
+    }
 
-    -- a line that is no step: refused with 11, or a `state` row, which is for the caller to take
-    pub run-unread : (e : ℕ) → at < length log → e ≡ firstAt log at 10 → (x : Line) → x ≡ lineAt log at e → x ≡ Bad → {m : ℕ} → m ≡ 11 → {w : Stop} → w ≡ stopAt log at m → r ≡ ranOf s b l c at filled w
-        → Pauses K log from g lent place r buf
-    run-unread e h f x q i z p o = stops-here (rowOr log at e 11) (at-unread K s c (length lent - filled) log at e h f (sym q ∙ i)) (unread-unclosed log at e) (row-there log at e h f) (o ∙ rw (p, z, f))
+    module _ {n : ℕ} (H : Halts K log from (g .state) (g .tally) lent place s b l c at buf filled n) where
+      -- it leaves there where no row goes by
+      pub run-leaves : passesAt K s c log at (firstAt log at 10) ≡ false → {w : Stop} → w ≡ stopAt log at n → Leaves K log from (g .state) (g .tally) lent place s b l c at buf filled w
+      run-leaves y q =
+          let Z = H .plays in
+          subst⁻¹ (Leaves K log from (g .state) (g .tally) lent place s b l c at buf filled) q (record {
+            here = Z .here;
+            rows = Z .rows;
+            rest = ap (telling (Z .rows .text)) (sym (H .stays y)) ∙ Z .rest;
+            onward = stop-unclosed log at n;
+            atRow = row-there log at n (Z .here .within);
+          })
+
+      -- and goes on behind a row that goes by
+      pub run-passes : passesAt K s c log at (firstAt log at 10) ≡ true → {p : ℕ} → p ≡ firstAt log at 10 → {m : ℕ} → m ≡ 0 → {d : Tally} → d ≡ afterRow c
+          → Continues K log from (g .state) (g .tally) lent place s b l d (p + 1) buf filled m
+      run-passes y f z e =
+          let Z = H .plays in
+          let S = Z .here in
+          let inside : at < length log = order at (length log) (λ l. l) (λ l. absurd (false-true (sym (end-stays K s c log at l (S .within)) ∙ y))) in
+          let q = at-passed K s c (length lent - filled) log at _ inside refl y in
+          let o = part-starts log at _ 10 (S .within) refl in
+          record {
+            none = z;
+            plays = record {
+              here = record {
+                within = omega (arith, f, q .0);
+                onward = omega (arith, f, o, S .onward);
+                sound = S .sound;
+                busy = S .busy;
+                listed = S .listed;
+                roomy = rw e (row-roomy c _ (S .roomy) _ (omega (arith, f, o, q .0)));
+              };
+              rows = Z .rows;
+              rest = ap (telling (Z .rows .text)) (rw (e, f) (sym (q .1))) ∙ Z .rest;
+            };
+          }
 
 -- what an accepted step comes to, by its verdict as the code has it
 module _ (s : State) (c : Tally) (room : ℕ) (ls : List (List ℕ)) (go : ℕ → Played) where
@@ -182,8 +285,8 @@ table σ = tableIn (σ .rows) (σ .index)
 abbrev ComesTo : Scene → State → List ℕ → List ℕ → Tally → ℕ → List ℕ → ℕ → Type 0
 ComesTo σ w b l d at buf filled = Plays (table σ) (σ .log) (σ .from) (σ .start .state) (σ .start .tally) (σ .lent) (σ .place) w b l d at buf filled
 
-abbrev pub StopsAs : Scene → Ran → Type 0
-StopsAs σ r = Pauses (table σ) (σ .log) (σ .from) (σ .start) (σ .lent) (σ .place) r (σ .buf)
+abbrev pub StopsAs : Scene → ℕ → Type 0
+StopsAs σ n = Halts (table σ) (σ .log) (σ .from) (σ .start .state) (σ .start .tally) (σ .lent) (σ .place) (σ .state) (σ .busy) (σ .listed) (σ .tally) (σ .at) (σ .buf) (σ .filled) n
 
 -- what all lines come to from the start, the room that is left, and the lines behind the next newline
 abbrev whole : Scene → Played
@@ -250,13 +353,22 @@ module _ {σ : Scene} (Z : Turn σ) where
   abbrev rows-here : Rows (σ .lent) (σ .place) (σ .buf) (σ .filled)
   rows-here = Z .plays .rows
 
+  paused-here : paused (table σ) (σ .state) (σ .tally) (left σ) (pieces (σ .log) (σ .at)) ≡ onStep (table σ) (σ .state) (σ .tally) (left σ) (σ .step) (pieces (σ .log) (σ .at)) (linesAfter σ) (λ w d n. paused (table σ) w d n (linesAfter σ))
+  paused-here = at-step (table σ) (σ .state) (σ .tally) (left σ) (σ .log) (σ .at) (σ .newline) (Z .inside) (Z .ends) (σ .step) (Z .line)
+
   played-here : whole σ ≡ telling (rows-here .text) (onStep (table σ) (σ .state) (σ .tally) (left σ) (σ .step) (pieces (σ .log) (σ .at)) (linesAfter σ) (λ w d n. paused (table σ) w d n (linesAfter σ)))
-  played-here = sym (Z .plays .rest) ∙ ap (telling (rows-here .text)) (at-step (table σ) (σ .state) (σ .tally) (left σ) (σ .log) (σ .at) (σ .newline) (Z .inside) (Z .ends) (σ .step) (Z .line))
+  played-here = sym (Z .plays .rest) ∙ ap (telling (rows-here .text)) paused-here
 
   -- the step is refused
-  pub turn-stops : {n : ℕ} → n ≡ refusal (table σ) (σ .state) (σ .step) → (n ≡ 0 → ⊥) → {m : ℕ} → m ≡ n → {w : Stop} → w ≡ stopAt (σ .log) (σ .at) m → {r : Ran} → r ≡ ranOf (σ .state) (σ .busy) (σ .listed) (σ .tally) (σ .at) (σ .filled) w → StopsAs σ r
-  turn-stops {n} q z i p {r} e =
-      stops-at (table σ) (σ .log) (σ .from) (σ .start) here rows-here (Refused n) (sym (played-here ∙ rw (← q, ne-eqb n 0 z))) (λ t. absurd t) (λ t. absurd t) r (e ∙ rw (p, i, ← stop-step (σ .log) (σ .at) n z (σ .newline) (Z .ends) (σ .step) (Z .line)))
+  pub turn-stops : {n : ℕ} → n ≡ refusal (table σ) (σ .state) (σ .step) → (n ≡ 0 → ⊥) → {m : ℕ} → m ≡ n → StopsAs σ m
+  turn-stops {n} q z i =
+      let no = step-stays (table σ) (σ .state) (σ .tally) (σ .log) (σ .at) (σ .newline) (σ .step) (Z .line) in
+      let h : onStep (table σ) (σ .state) (σ .tally) (left σ) (σ .step) (pieces (σ .log) (σ .at)) (linesAfter σ) (λ w d n. paused (table σ) w d n (linesAfter σ)) ≡ stopped (σ .state) (σ .tally) (Refused n) (pieces (σ .log) (σ .at)) = rw (← q, ne-eqb n 0 z) in
+      record {
+        plays = Z .plays;
+        stays = λ y. paused-here ∙ h ∙ rw (i, ← stop-step (σ .log) (σ .at) n z (σ .newline) (Z .ends) (σ .step) (Z .line));
+        stands = λ y. rw (← Z .ends) no;
+      }
 
 module _ {σ : Scene} {w : State} {b l : List ℕ} {d : Tally} {v : Ruling} (G : Goes σ w b l d v) where
   after : Stands (table σ) (σ .log) (σ .from) w b l d (σ .newline + 1)
@@ -292,14 +404,18 @@ module _ {σ : Scene} {w : State} {b l : List ℕ} {d : Tally} {v : Ruling} (G :
     turn-kept = put-length p ∙ size
 
     -- it has none
-    pub turn-full : more ≡ σ .filled → (r : Ran) → r ≡ ranOf w b l d (σ .newline + 1) (σ .filled) (Closed k)
-        → Pauses (table σ) (σ .log) (σ .from) (σ .start) (σ .lent) (σ .place) r buf
+    pub turn-full : more ≡ σ .filled → Leaves (table σ) (σ .log) (σ .from) (σ .start .state) (σ .start .tally) (σ .lent) (σ .place) w b l d (σ .newline + 1) buf (σ .filled) (Closed k)
     turn-full e =
         let short : length (σ .buf) < σ .filled + length (cycleText k) =
         order (length (σ .buf)) (σ .filled + length (cycleText k)) (λ l. l) (λ l. absurd (omega (arith, put-fits l p .0, row-some k))) in
         let lack : left σ < length (cycleText k) = omega (arith, size, rows .fits, rows .filled) in
-        stops-at (table σ) (σ .log) (σ .from) (σ .start) after (record { text = rows .text; fits = rows .fits; filled = rows .filled; bytes = put-short short p .1 ∙ rows .bytes })
-        (Closed k) (sym (played-kept ∙ rw (lt-leb _ _ lack))) (λ t. omega (arith, here (G .turn) .onward, onward (G .turn))) (λ t. absurd t)
+        record {
+          here = after;
+          rows = record { text = rows .text; fits = rows .fits; filled = rows .filled; bytes = put-short short p .1 ∙ rows .bytes };
+          rest = sym (played-kept ∙ rw (lt-leb _ _ lack));
+          onward = λ t. omega (arith, here (G .turn) .onward, onward (G .turn));
+          atRow = λ t. absurd t;
+        }
 
     -- it is written, and the run goes on behind it
     pub turn-told : (more ≡ σ .filled → ⊥) → {m : ℕ} → m ≡ 0 → Continues (table σ) (σ .log) (σ .from) (σ .start .state) (σ .start .tally) (σ .lent) (σ .place) w b l d (σ .newline + 1) buf more m

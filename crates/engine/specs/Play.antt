@@ -6,7 +6,7 @@ use mathlib.Core.List.{List, [], _∷_, _++_}
 use mathlib.Core.Path.{_≡_}
 use lib.ListN.{length, take, drop}
 use lib.Seq.{sets}
-use lib.Dec.{T, leb}
+use lib.Dec.{T, leb, eqb}
 use Rattle.text.specs.Parts.{pick, splitOn, firstAt}
 use Rattle.model.specs.Tests.{accepted}
 use Rattle.model.specs.Tables.{Table}
@@ -21,10 +21,10 @@ use Rattle.report.specs.Rows.{cycleOf, cycleText}
 use Rattle.report.specs.declared.Cycle.{Cycle}
 use Rattle.log.specs.Lines.{setDigits, readStep}
 use Rattle.saved.specs.Rows.{beginsRow}
-use Rattle.entries.specs.Entries.{Resumed, resumed}
+use Rattle.entries.specs.Entries.{rowRefusal, Resumed, resumed}
 use Rattle.conflicts.specs.Busy.{busyIn}
 use Rattle.managing.specs.Listed.{listedIn}
-use Rattle.tally.specs.Tallies.{tallied, Roomy}
+use Rattle.tally.specs.Tallies.{linesOf, afterRow, tallied, Roomy}
 use Rattle.tally.specs.declared.Tally.{Tally}
 use Rattle.engine.specs.declared.Stop.{Stop}
 use Rattle.engine.specs.declared.Stop.the-variants.{End, Refused, Closed, Row}
@@ -94,12 +94,16 @@ played K s c room [] = stopped s c End []
 played K s c room (p ∷ []) = lastLine s c p
 played K s c room (p ∷ q ∷ ps) = onLine K s c room p (readStep setDigits p) (p ∷ q ∷ ps) (q ∷ ps) (λ w d n. played K w d n (q ∷ ps))
 
--- a line with its newline where each `state` row is left to the caller
+-- a `state` row that goes by: it stands behind line 1 and equals the state reached
+unfoldable pub goesBy : Table → State → Tally → List ℕ → Bool
+goesBy K s c p = pick (beginsRow p) (pick (eqb (linesOf c) 0) false (accepted (rowRefusal K s p))) false
+
+-- a line with its newline where every other `state` row is left to the caller
 abbrev pub upToRow : Table → State → Tally → ℕ → List ℕ → Line → List (List ℕ) → List (List ℕ) → (State → Tally → ℕ → Played) → Played
-upToRow K s c room p line.Bad here rest go = stopped s c (pick (beginsRow p) Row (Refused 11)) here
+upToRow K s c room p line.Bad here rest go = pick (goesBy K s c p) (go s (afterRow c) room) (stopped s c (pick (beginsRow p) Row (Refused 11)) here)
 upToRow K s c room p (line.Is x) here rest go = onStep K s c room x here rest go
 
--- the lines of a log up to its first `state` row, with so much room for rows
+-- the lines of a log up to the first such row, with so much room for rows
 unfoldable pub paused : Table → State → Tally → ℕ → List (List ℕ) → Played
 paused K s c room [] = stopped s c End []
 paused K s c room (p ∷ []) = lastLine s c p
@@ -154,7 +158,7 @@ pub record Runs (K : Table) (log : List ℕ) (from : ℕ) (g : Going) (buf : Lis
   pub ready : Ready K (r .going)
   pub roomy : Roomy (r .going .tally) (length log - r .at)
 
--- the same of a run that takes no `state` row: it leaves at the first
+-- the same of a run that takes no `state` row but those that go by: it leaves at the first other
 pub record Pauses (K : Table) (log : List ℕ) (from : ℕ) (g : Going) (buf : List ℕ) (place : ℕ) (r : Ran) (after : List ℕ) : Type 0 where
   pub runs : Runs K log from g buf place r after
   pub paused : playedTo (runs .text) (r .going .state) (r .going .tally) (r .stop) (pieces log (r .at)) ≡ paused K (g .state) (g .tally) (length buf - place) (pieces log from)

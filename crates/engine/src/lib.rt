@@ -116,119 +116,150 @@ pub fn run(
     let mut at = from;
     let mut filled = place;
     let mut refusal = 0;
-    while at < log.len() {
-        let e = text::next_byte(log, at, text::NEWLINE);
-        let Line::Is(st) = line_at(log, at, e) else {
-            refusal = 11;
-            break;
-        };
-        let mut w = Ruling::Open;
-        match st {
-            Step::Wait(d) => {
-                let mut room = true;
-                let mut k = 0;
-                while k < nt {
-                    let x = s.tasks[k];
-                    let h = x.holder;
-                    let mut hinders = records::either(x.managing, x.signal);
-                    room = records::both(room, waits::timer_room(rows, index, d, k, x.timer));
-                    if let Holder::Activity(a) = h {
-                        let y = s.acts[a];
-                        hinders = waits::act_hinders(rows, index, &busy, y);
-                        room = records::both(room, waits::act_room(rows, index, d, y));
+    loop {
+        while at < log.len() {
+            let e = text::next_byte(log, at, text::NEWLINE);
+            let Line::Is(st) = line_at(log, at, e) else {
+                refusal = 11;
+                break;
+            };
+            let mut w = Ruling::Open;
+            match st {
+                Step::Wait(d) => {
+                    let mut room = true;
+                    let mut k = 0;
+                    while k < nt {
+                        let x = s.tasks[k];
+                        let h = x.holder;
+                        let mut hinders = records::either(x.managing, x.signal);
+                        room = records::both(room, waits::timer_room(rows, index, d, k, x.timer));
+                        if let Holder::Activity(a) = h {
+                            let y = s.acts[a];
+                            hinders = waits::act_hinders(rows, index, &busy, y);
+                            room = records::both(room, waits::act_room(rows, index, d, y));
+                        }
+                        if hinders {
+                            break;
+                        }
+                        k += 1;
                     }
-                    if hinders {
+                    refusal = waits::wait_number(nt <= k, room, s.date, d);
+                    if refusal != 0 {
                         break;
                     }
-                    k += 1;
-                }
-                refusal = waits::wait_number(nt <= k, room, s.date, d);
-                if refusal != 0 {
-                    break;
-                }
-                let mut m = 0;
-                while m < nt {
-                    let x = s.tasks[m];
-                    let h = x.holder;
-                    let late = x.timer + d;
-                    s.tasks[m].timer = late;
-                    m += 1;
-                    if let Holder::Activity(a) = h {
-                        let y = s.acts[a];
-                        let old = records::older_clock(y, d);
-                        s.acts[a].clock = old;
+                    let mut m = 0;
+                    while m < nt {
+                        let x = s.tasks[m];
+                        let h = x.holder;
+                        let late = x.timer + d;
+                        s.tasks[m].timer = late;
+                        m += 1;
+                        if let Holder::Activity(a) = h {
+                            let y = s.acts[a];
+                            let old = records::older_clock(y, d);
+                            s.acts[a].clock = old;
+                        }
                     }
+                    s.date = s.date + d;
+                    c = tally::after_wait(c);
                 }
-                s.date = s.date + d;
-                c = tally::after_wait(c);
-            }
-            Step::Sm(t, n, r) => {
-                let i = rules::row_in(t, nt);
-                let x = s.tasks[i];
-                refusal = managing::sm_number(rows, index, t, n, r, x);
-                if refusal != 0 {
-                    break;
+                Step::Sm(t, n, r) => {
+                    let i = rules::row_in(t, nt);
+                    let x = s.tasks[i];
+                    refusal = managing::sm_number(rows, index, t, n, r, x);
+                    if refusal != 0 {
+                        break;
+                    }
+                    let end = prepared::acts_end(rows, index, i);
+                    let mut a = prepared::acts_begin(rows, index, i);
+                    while a < end {
+                        let y = s.acts[a];
+                        let v = managing::flag(n, r, a, y);
+                        s.acts[a] = v;
+                        listed[a] = managing::listed_of(v);
+                        a += 1;
+                    }
+                    let u = records::opened_task(s.date, x);
+                    s.tasks[i] = u;
+                    c = tally::after_sm(c);
                 }
-                let end = prepared::acts_end(rows, index, i);
-                let mut a = prepared::acts_begin(rows, index, i);
-                while a < end {
+                Step::OfTask(t, k) => {
+                    let i = rules::row_in(t, nt);
+                    let x = s.tasks[i];
+                    let empty = managing::is_empty_for(rows, index, &listed, i, k);
+                    let told = rules::task_step(rows, index, t, k, empty, x);
+                    refusal = told.number;
+                    if refusal != 0 {
+                        break;
+                    }
+                    let u = told.task;
+                    s.tasks[i] = u;
+                    w = tally::ruling_of(rows, index, i, k, s.date, x);
+                    c = tally::after_step(c, w);
+                }
+                Step::OfAct(a, k) => {
+                    refusal = rules::check_names(rows, index, a, k);
+                    if refusal != 0 {
+                        break;
+                    }
+                    let t = rules::task_in(rows, index, a, k);
+                    let x = s.tasks[t];
                     let y = s.acts[a];
-                    let v = managing::flag(n, r, a, y);
+                    let p = y.place;
+                    let clear = conflicts::is_clear_for(rows, index, &busy, k, p);
+                    let told = rules::local_step(rows, index, a, k, clear, x, y);
+                    refusal = told.number;
+                    if refusal != 0 {
+                        break;
+                    }
+                    let u = told.task;
+                    let v = told.act;
+                    s.tasks[t] = u;
                     s.acts[a] = v;
+                    busy[a] = conflicts::busy_of(v);
                     listed[a] = managing::listed_of(v);
-                    a += 1;
+                    c = tally::after_step(c, Ruling::Open);
                 }
-                let u = records::opened_task(s.date, x);
-                s.tasks[i] = u;
-                c = tally::after_sm(c);
             }
-            Step::OfTask(t, k) => {
-                let i = rules::row_in(t, nt);
-                let x = s.tasks[i];
-                let empty = managing::is_empty_for(rows, index, &listed, i, k);
-                let told = rules::task_step(rows, index, t, k, empty, x);
-                refusal = told.number;
-                if refusal != 0 {
-                    break;
-                }
-                let u = told.task;
-                s.tasks[i] = u;
-                w = tally::ruling_of(rows, index, i, k, s.date, x);
-                c = tally::after_step(c, w);
+            at = e + 1;
+            let Ruling::Kept(row) = w else {
+                continue;
+            };
+            let more = report::put_cycle(buf, filled, row);
+            if more == filled {
+                return left_at(s, busy, listed, c, at, filled, Stop::Closed(row));
             }
-            Step::OfAct(a, k) => {
-                refusal = rules::check_names(rows, index, a, k);
-                if refusal != 0 {
-                    break;
-                }
-                let t = rules::task_in(rows, index, a, k);
-                let x = s.tasks[t];
-                let y = s.acts[a];
-                let p = y.place;
-                let clear = conflicts::is_clear_for(rows, index, &busy, k, p);
-                let told = rules::local_step(rows, index, a, k, clear, x, y);
-                refusal = told.number;
-                if refusal != 0 {
-                    break;
-                }
-                let u = told.task;
-                let v = told.act;
-                s.tasks[t] = u;
-                s.acts[a] = v;
-                busy[a] = conflicts::busy_of(v);
-                listed[a] = managing::listed_of(v);
-                c = tally::after_step(c, Ruling::Open);
-            }
+            filled = more;
         }
-        at = e + 1;
-        let Ruling::Kept(row) = w else {
-            continue;
-        };
-        let more = report::put_cycle(buf, filled, row);
-        if more == filled {
-            return left_at(s, busy, listed, c, at, filled, Stop::Closed(row));
+        if refusal != 11 {
+            break;
         }
-        filled = more;
+        if c.steps + c.rows == 0 {
+            break;
+        }
+        let mut p = saved::past_date(log, at, s.date);
+        let mut k = 0;
+        while k < nt {
+            let x = s.tasks[k];
+            p = saved::past_task(rows, index, log, p, &listed, k, x);
+            k += 1;
+        }
+        let na = prepared::acts(rows, index);
+        let mut a = 0;
+        while a < na {
+            let y = s.acts[a];
+            p = saved::past_act(log, p, y);
+            a += 1;
+        }
+        if log.len() <= p {
+            break;
+        }
+        if log[p] != text::NEWLINE {
+            break;
+        }
+        refusal = 0;
+        c = tally::after_row(c);
+        at = p + 1;
     }
     left_at(s, busy, listed, c, at, filled, stop_at(log, at, refusal))
 }

@@ -4,3 +4,4 @@ pub mod Parts
 pub mod Taking
 pub mod Reading
 pub mod Writing
+pub mod Standing

@@ -1,12 +1,15 @@
 // The fields of a `state` row: what each says by its form, read from a line and written into a buffer, one after another as a description
 // lists their forms. A field's value is one number.
 ghost use mathlib.Core.Path.{_≡_};
+ghost use mathlib.Core.List.{_∷_};
 ghost use Prim.Native.Nat.{_+_, _*_, _≤_};
 ghost use lib.ListN.{length};
 ghost use lib.Seq.{sets};
+ghost use Rattle.text.specs.Number.{digits};
 ghost use Rattle.text.specs.Fields.{behind};
 ghost use Rattle.text.specs.Put.{Put};
-ghost use Rattle.fields.specs.Forms.{yesOf, setOf, wordOr, readForm, wordText, formText};
+ghost use Rattle.text.specs.Standing.{past};
+ghost use Rattle.fields.specs.Forms.{aSet, yesOf, setOf, wordOr, readForm, wordText, formText};
 ghost use Rattle.fields.specs.Fields.{fieldsText, repeated, took, Took};
 use text::Got;
 use text::Number;
@@ -187,4 +190,38 @@ pub fn put_fields(buf: &mut [u8], at: usize, forms: &[usize], values: &[u64]) ->
         i += 1;
     }
     p
+}
+
+// The place behind a number's field, with the tab before it, where it stands at a place; the end where it does not. Most have one digit.
+pub fn past_number(s: &[u8], at: usize, v: u64) -> usize
+    requires { ⌜ at ≤ length (now s) ⌝ }
+    ensures { λ r. ⌜ r ≡ past (now (s .entry)) at (9 ∷ digits v) ⌝ }
+{
+    if s.len() - at < 2 {
+        return s.len();
+    }
+    if s[at] != text::TAB {
+        return s.len();
+    }
+    if v < 10 {
+        if s[at + 1] != (48 + v) as u8 {
+            return s.len();
+        }
+        return at + 2;
+    }
+    text::past_number(s, at + 1, v)
+}
+
+// The same of a set's field.
+pub fn past_set(s: &[u8], at: usize, v: u64) -> usize
+    requires { ⌜ at ≤ length (now s) ⌝ }
+    ensures { λ r. ⌜ r ≡ past (now (s .entry)) at (9 ∷ formText aSet v) ⌝ }
+{
+    if s.len() - at < 2 {
+        return s.len();
+    }
+    if s[at] != text::TAB {
+        return s.len();
+    }
+    text::past_half(s, at + 1, v)
 }

@@ -2,11 +2,12 @@
 use mathlib.Core.Bool.{Bool, true, false, not}
 use mathlib.Core.List.{List}
 use mathlib.Core.Path.{_≡_, refl, _∙_}
-use Prim.Native.Nat.{ℕ, _≤_, _<_}
+use Prim.Native.Nat.{ℕ, _+_, _*_, _≤_, _<_}
 use native.Mathlib.Omega.{arith}
 use lib.Dec.{eqb}
 use lib.ListN.{getD, List·getD-map}
 use borrow.Author.Tests.{eq-eqb, ne-eqb}
+use mir.Val.{boolByte}
 use Rattle.model.specs.Tests.{_and_, _or_, _implies_, one, some}
 use Rattle.model.specs.Tables.{Table}
 use Rattle.model.specs.States.{noAct, actAt}
@@ -20,19 +21,26 @@ use Rattle.prepared.proofs.Walks.{Passed, found, absent}
 use Rattle.rules.specs.Local.{emptyFor}
 use Rattle.managing.specs.Listed.{listedOf, listedIn, noneBy, emptyForBy}
 
--- whether an activity is in N or R
+-- a bool as a number is at most 1
+pub bool-most : (b : Bool) → boolByte b ≤ 1
+bool-most true = omega arith
+bool-most false = omega arith
+
+-- in which of N and R an activity is
 pub listed-at : (s : State) (a : ℕ) → getD (listedIn s) a 0 ≡ listedOf (actAt s a)
 listed-at s a = List·getD-map listedOf (s .acts) a noAct
 
 -- N and R of a task are empty
 pub none-by : (K : Table) (s : State) (t : ℕ) → noneBy K (listedIn s) t ≡ noneIn K s t
 unfolding noneBy noneIn
-none-by K s t = each-same _ _ (K .nacts) (λ a h. rw (listed-at s a) (neither (eqb (K .task a) t) ((actAt s a .run) or (actAt s a .halt))))
+none-by K s t = each-same _ _ (K .nacts) (λ a h. rw (listed-at s a) (neither (eqb (K .task a) t) (actAt s a .run) (actAt s a .halt)))
   where
-    neither : (b x : Bool) → (b implies eqb (one x) 0) ≡ not (b and x)
-    neither true true = refl
-    neither true false = refl
-    neither false x = refl
+    neither : (b x y : Bool) → (b implies eqb (one x + 2 * one y) 0) ≡ not (b and (x or y))
+    neither true true true = refl
+    neither true true false = refl
+    neither true false true = refl
+    neither true false false = refl
+    neither false x y = refl
 
 pub empty-for-by : (K : Table) (s : State) (t : ℕ) (k : TaskStep) → emptyForBy K (listedIn s) t k ≡ emptyFor K s t k
 empty-for-by K s t St = refl

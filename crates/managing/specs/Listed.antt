@@ -1,19 +1,19 @@
--- N and R by what stands beside the state: of each activity whether it is in one of them.
-use Prim.Native.Nat.{ℕ}
+-- N and R by what stands beside the state: of each activity in which of them it is.
+use Prim.Native.Nat.{ℕ, _+_, _*_}
 use mathlib.Core.Bool.{Bool, true}
 use mathlib.Core.List.{List, map}
 use lib.ListN.{getD}
 use lib.Dec.{eqb}
-use Rattle.model.specs.Tests.{_or_, _implies_, one, each}
+use Rattle.model.specs.Tests.{_implies_, one, each}
 use Rattle.model.specs.Tables.{Table}
 use Rattle.model.specs.declared.Act.{Act}
 use Rattle.model.specs.declared.State.{State}
 use Rattle.model.specs.declared.TaskStep.{TaskStep}
 use Rattle.model.specs.declared.TaskStep.the-variants.{St, Fm}
 
--- whether an activity is in N or R
+-- in which of N and R an activity is: 1 for N, 2 for R
 abbrev pub listedOf : Act → ℕ
-listedOf y = one ((y .run) or (y .halt))
+listedOf y = one (y .run) + 2 * one (y .halt)
 
 -- of each activity of a state
 abbrev pub listedIn : State → List ℕ

@@ -1,5 +1,5 @@
 // `sm` and the sets N and R: whether a set lies within its task, what `sm` asks and does on the records, and whether N and R are empty.
-// Beside the state stands which activities are in N or R, so that `fm` walks no records.
+// Beside the state stands in which of N and R each activity is, so that `fm` walks no records.
 ghost use mathlib.Core.Path.{_≡_};
 ghost use Prim.Native.Nat.{_<_, _≤_};
 ghost use mathlib.Core.Bool.{true};
@@ -13,17 +13,13 @@ use model::Task;
 use model::TaskStep;
 use text::Set;
 
-// Is an activity in N or R?
+// In which of N and R an activity is: 1 for N, 2 for R.
 pub fn listed_of(y: Act) -> usize
     ensures { λ r. ⌜ r ≡ listedOf y ⌝ }
 {
-    if y.run {
-        return 1;
-    }
-    if y.halt {
-        return 1;
-    }
-    0
+    let n = y.run;
+    let r = y.halt;
+    n as usize + 2 * (r as usize)
 }
 
 // Are N and R of a task empty?

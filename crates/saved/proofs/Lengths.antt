@@ -76,18 +76,17 @@ acts-text s n = ap (fieldsText (repeated n actForms)) (acts-are s n)
 abbrev pub dateText : State → List ℕ
 dateText s = fieldsText (aNumber ∷ []) (s .date ∷ [])
 
--- a row's line is its word, its date, its tasks and its activities; behind it stands the newline
-pub row-text : (K : Table) (s : State) → rowText K s ≡ stateWord ++ (dateText s ++ (tasksText K s (K .ntasks) ++ (actsText s (K .nacts) ++ 10 ∷ [])))
+-- a row's line is its word, its date, its tasks and its activities
+pub row-line : (K : Table) (s : State) → rowLine K s ≡ stateWord ++ (dateText s ++ (tasksText K s (K .ntasks) ++ actsText s (K .nacts)))
 unfolding rowLine rowForms rowValues
-row-text K s =
-    let d = dateText s in
-    let t = tasksText K s (K .ntasks) in
-    let a = actsText s (K .nacts) in
+row-line K s =
     let l : length (repeated (K .ntasks) taskForms) ≡ length (tasksValues K s (K .ntasks)) = length-repeated (K .ntasks) taskForms ∙ sym (tasks-length K s (K .ntasks)) in
-    let e : fieldsText (rowForms K) (rowValues K s) ≡ d ++ (t ++ a) =
-    text-append (aNumber ∷ []) (s .date ∷ []) _ _ refl
-    ∙ ap (d ++_) (text-append (repeated (K .ntasks) taskForms) (tasksValues K s (K .ntasks)) (repeated (K .nacts) actForms) (actsValues s (K .nacts)) l) in
-    rw (e, append-assoc, append-assoc, append-assoc)
+    ap (stateWord ++_) (text-append (aNumber ∷ []) (s .date ∷ []) _ _ refl
+    ∙ ap (dateText s ++_) (text-append (repeated (K .ntasks) taskForms) (tasksValues K s (K .ntasks)) (repeated (K .nacts) actForms) (actsValues s (K .nacts)) l))
+
+-- behind it stands the newline
+pub row-text : (K : Table) (s : State) → rowText K s ≡ stateWord ++ (dateText s ++ (tasksText K s (K .ntasks) ++ (actsText s (K .nacts) ++ 10 ∷ [])))
+row-text K s = rw (row-line K s, append-assoc, append-assoc, append-assoc)
 
 -- a row whose fields can be said is at most 3,892 bytes long, its newline with it
 pub ok-short : (K : Table) (vs : List ℕ) → K .ntasks ≤ mostTasks → K .nacts ≤ mostActs → valuesOk (rowForms K) vs ≡ true → length (stateWord ++ fieldsText (rowForms K) vs) + 1 ≤ 3892

@@ -3,6 +3,7 @@ pub mod Filling
 pub mod Within
 pub mod Bits
 pub mod Marks
+pub mod Listed
 pub mod Values
 pub mod Sayable
 pub mod Said
@@ -11,3 +12,4 @@ pub mod Lengths
 pub mod Writing
 pub mod Reading
 pub mod Rows
+pub mod Standing

@@ -40,6 +40,10 @@ bit-most false a = omega arith
 abbrev pub bitsOf : Table → (ℕ → Bool) → ℕ → ℕ → ℕ
 bitsOf K p t n = sum n (λ a. bitOf (eqb (K .task a) t and p a) a)
 
+-- there is room for one bit more
+pub bits-fit : (K : Table) (p : ℕ → Bool) (t a x v : ℕ) → x ≡ bitsOf K p t a → v ≡ bitOf (p a) a → a < mostActs → Fits w64 (x + v)
+bits-fit K p t a x v q e m = record { fits = omega (arith, bits-low (λ i. eqb (K .task i) t and p i) a, bit-most (p a) a, pow-mono {i = suc a} {j = 64} (omega arith)) }
+
 -- the numbers l, one for each task, are those bits
 pub record Added (K : Table) (p : ℕ → Bool) (l : List ℕ) (n : ℕ) : Type 0 where
   pub at : (t : ℕ) → t < mostTasks → getD l t 0 ≡ bitsOf K p t n
@@ -53,7 +57,7 @@ added-none K p = record { at = λ t h. getD-replicate mostTasks t 0 0 h; size = 
 module _ {K : Table} {p : ℕ → Bool} {l : List ℕ} {a : ℕ} (A : Added K p l a) (t v : ℕ) (h : t < mostTasks) (e : v ≡ bitOf (p a) a) where
   -- there is room for one bit more
   pub bit-fits : a < mostActs → Fits w64 (getD l t 0 + v)
-  bit-fits m = record { fits = omega (arith, A .at t h, bits-low (λ i. eqb (K .task i) t and p i) a, bit-most (p a) a, pow-mono {i = suc a} {j = 64} (omega arith)) }
+  bit-fits m = bits-fit K p t a _ v (A .at t h) e m
 
   -- one bit more, at its task
   pub added-more : t ≡ K .task a → Added K p (set l t (getD l t 0 + v)) (a + 1)

@@ -1,16 +1,16 @@
 -- Fields can say the values of a sound state.
 use Prim.Native.Nat.{ℕ, zero, suc, _^_, _≤_, _<_}
-use mathlib.Core.Path.{_≡_, refl, sym, ap, subst, _∙_}
+use mathlib.Core.Path.{_≡_, refl, ap, subst, _∙_}
 use mathlib.Core.Bool.{Bool, true, false}
-use mathlib.Core.List.{List, [], _∷_, _++_}
+use mathlib.Core.List.{List}
 use native.Mathlib.Numerals.{add-one}
 use native.Mathlib.Omega.{arith}
-use lib.Dec.{T, ltb, leb, eqb, leb→le, ltb→lt, eqb→eq}
+use lib.Dec.{T, ltb, leb, eqb, leb→le, ltb→lt, lt→ltb, eqb→eq}
 use lib.Pow.{pow-mono}
 use borrow.Author.Tests.{lt-ltb, le-leb}
-use Rattle.text.proofs.Picks.{cases, picked, false-true}
+use Rattle.text.proofs.Picks.{cases}
 use Rattle.model.specs.Tests.{_and_, one, each, sum}
-use Rattle.model.specs.Limits.{mostTicks, ceiling}
+use Rattle.model.specs.Limits.{mostActs, mostCodels, mostTicks, ceiling}
 use Rattle.model.specs.Tables.{Table}
 use Rattle.model.specs.Rows.{wellformed}
 use Rattle.model.specs.States.{taskAt, actAt}
@@ -27,6 +27,7 @@ use Rattle.fields.specs.Forms.{aNumber, aYes, aHolder, aSet, aPlace, noNumber, 
 use Rattle.fields.specs.Fields.{repeated, valuesOk}
 use Rattle.fields.proofs.Parts.{ok-append, repeated-more}
 use Rattle.saved.specs.Rows.{taskForms, actForms, rowForms, holderValue, placeValue, bitOf, runBits, haltBits, rowValues}
+use Rattle.saved.specs.Standing.{holderFits, placeFits}
 use Rattle.saved.proofs.Bits.{bits-low}
 use Rattle.saved.proofs.Values.{parts, taskPart, actPart, tasks-are, acts-are}
 
@@ -75,16 +76,34 @@ module _ (K : Table) (s : State) (wf : wellformed K ≡ true) (ok : T (sound K s
       let acts = and-both (each (K .nacts) (λ a. fineAct K a (taskAt s (K .task a)) (actAt s a))) _ (tasks .1) in
       (λ t h. task-of K (s .date) t (taskAt s t) (each-at (λ t. fineTask K (s .date) t (taskAt s t)) (K .ntasks) (tasks .0) t h), λ a h. act-of K a _ (actAt s a) (each-at (λ a. fineAct K a (taskAt s (K .task a)) (actAt s a)) (K .nacts) (acts .0) a h), leb→le _ _ (date .0))
 
-  -- no number of an activity or of a codel is what stands for `manager` and `ether`
+  -- who holds is an activity of the table, and where an activity is, is a codel of it
+  holder-in : (t : ℕ) → t < K .ntasks → (a : ℕ) → taskAt s t .holder ≡ Activity a → a < K .nacts
+  holder-in t h a e = ltb→lt a (K .nacts) (and-both (ltb a (K .nacts)) _ (subst (λ z. T (holderOk K t z)) e (rows .0 t h .holder)) .0)
+
+  place-in : (a : ℕ) → a < K .nacts → (c : ℕ) → actAt s a .place ≡ Codel c → c < K .ncodels
+  place-in a h c e = ltb→lt c (K .ncodels) (and-both (ltb c (K .ncodels)) _ (subst (λ p. T (atOwn K a p)) e (rows .1 a h .own)) .0)
+
+  -- so its number is one that a table may have
+  pub holder-fits : (t : ℕ) → t < K .ntasks → T (holderFits (taskAt s t .holder))
+  holder-fits t h = go (taskAt s t .holder) refl
+    where
+      go : (x : Holder) → taskAt s t .holder ≡ x → T (holderFits x)
+      go Manager e = tt
+      go (Activity a) e = lt→ltb a mostActs (omega (arith, holder-in t h a e, table .fits .1))
+
+  pub place-fits : (a : ℕ) → a < K .nacts → T (placeFits (actAt s a .place))
+  place-fits a h = go (actAt s a .place) refl
+    where
+      go : (p : Place) → actAt s a .place ≡ p → T (placeFits p)
+      go Ether e = tt
+      go (Codel c) e = lt→ltb c mostCodels (omega (arith, place-in a h c e, table .fits .2))
+
+  -- and not what stands for `manager` and `ether`
   pub holder-low : (t : ℕ) → t < K .ntasks → (a : ℕ) → taskAt s t .holder ≡ Activity a → a < noNumber
-  holder-low t h a e =
-      let w = and-both (ltb a (K .nacts)) _ (subst (λ z. T (holderOk K t z)) e (rows .0 t h .holder)) in
-      omega (arith, ltb→lt a (K .nacts) (w .0), table .fits .1)
+  holder-low t h a e = omega (arith, holder-in t h a e, table .fits .1)
 
   pub place-low : (a : ℕ) → a < K .nacts → (c : ℕ) → actAt s a .place ≡ Codel c → c < noNumber
-  place-low a h c e =
-      let w = and-both (ltb c (K .ncodels)) _ (subst (λ p. T (atOwn K a p)) e (rows .1 a h .own)) in
-      omega (arith, ltb→lt c (K .ncodels) (w .0), table .fits .2)
+  place-low a h c e = omega (arith, place-in a h c e, table .fits .2)
 
   -- no clock is above the highest limit
   clock-low : (a : ℕ) → a < K .nacts → actAt s a .clock ≤ mostTicks

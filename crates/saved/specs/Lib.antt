@@ -1,2 +1,4 @@
 pub mod Rows
 pub mod Written
+pub mod Listed
+pub mod Standing

@@ -1,17 +1,23 @@
 // The `state` row: every field of a state in one line of a log, read and written. Which fields a task's part and an activity's part have is
 // described once; a table's counts say how many parts there are.
 ghost use mathlib.Core.Path.{_≡_};
+ghost use mathlib.Core.List.{[], _∷_};
 ghost use Prim.Native.Nat.{_+_, _<_, _≤_};
 ghost use lib.ListN.{length};
 ghost use lib.Seq.{sets};
 ghost use lib.Dec.{T};
+ghost use Rattle.text.specs.Standing.{past};
 ghost use Rattle.model.specs.Tests.{one};
 ghost use Rattle.model.specs.Limits.{mostTasks, mostActs};
 ghost use Rattle.model.specs.Sound.{sound};
 ghost use Rattle.log.specs.Lines.{longestRow};
 ghost use Rattle.prepared.specs.Prepared.{tableIn, Prepared};
-ghost use Rattle.saved.specs.Rows.{taskFields, actFields, mostValues, holderOf, placeOf, holderValue, placeValue, setAt, taskFrom, actFrom, stateFrom, setsWithin, readState, refused, bitOf, taskValues, actValues, beginsRow, rowText};
+ghost use Rattle.fields.specs.Forms.{aHolder, aSet, aPlace, formText};
+ghost use Rattle.fields.specs.Fields.{fieldsText};
+ghost use Rattle.saved.specs.Rows.{taskForms, taskFields, actForms, actFields, mostValues, holderOf, placeOf, holderValue, placeValue, setAt, taskFrom, actFrom, stateFrom, setsWithin, readState, refused, bitOf, taskValues, actValues, beginsRow, rowText};
 ghost use Rattle.saved.specs.Written.{Whole, tasksFrom, actsFrom, Marked, tasksText, actsText, longestTasks, longestActs};
+ghost use Rattle.saved.specs.Listed.{runBy, haltBy, ListsOf};
+ghost use Rattle.saved.specs.Standing.{holderFits, placeFits, isIdle, Unlisted, headText};
 use fields::End;
 use model::Act;
 use model::Holder;
@@ -396,4 +402,136 @@ pub fn put_state(rows: &[u32], index: &[u32], s: State, buf: &mut [u8]) -> usize
     let e = put_acts(rows, index, buf, q, s);
     buf[e] = text::NEWLINE;
     e + 1
+}
+
+// N and R of one task as numbers.
+struct Lists {
+    run: u64,
+    halt: u64,
+}
+
+// N and R of a task, by what stands beside the state.
+fn lists_of(rows: &[u32], index: &[u32], listed: &[usize], t: usize) -> Lists
+    requires { ⌜ Prepared (now rows) (now index) × (t < tableIn (now rows) (now index) .ntasks) × (tableIn (now rows) (now index) .nacts ≤ length (now listed)) ⌝ }
+    ensures { λ r. ⌜ ListsOf (tableIn (now (rows .entry)) (now (index .entry))) (now (listed .entry)) t r ⌝ }
+{
+    let end = prepared::acts_end(rows, index, t);
+    let mut a = prepared::acts_begin(rows, index, t);
+    let mut run: u64 = 0;
+    let mut halt: u64 = 0;
+    while a < end {
+        let k = listed[a];
+        run = run + bit_of(k % 2 == 1, a);
+        halt = halt + bit_of(2 <= k, a);
+        a += 1;
+    }
+    Lists {
+        run: run,
+        halt: halt,
+    }
+}
+
+// The place behind who holds, with the tab before it, where it stands at a place; the end where it does not.
+fn past_holder(log: &[u8], at: usize, h: Holder) -> usize
+    requires { ⌜ (at ≤ length (now log)) × T (holderFits h) ⌝ }
+    ensures { λ r. ⌜ r ≡ past (now (log .entry)) at (9 ∷ formText aHolder (holderValue h)) ⌝ }
+{
+    match h {
+        Holder::Manager => text::past_bytes(log, at, b"\tmanager"),
+        Holder::Activity(a) => fields::past_number(log, at, a as u64),
+    }
+}
+
+// The same of where an activity is.
+fn past_place(log: &[u8], at: usize, p: Place) -> usize
+    requires { ⌜ (at ≤ length (now log)) × T (placeFits p) ⌝ }
+    ensures { λ r. ⌜ r ≡ past (now (log .entry)) at (9 ∷ formText aPlace (placeValue p)) ⌝ }
+{
+    match p {
+        Place::Ether => text::past_bytes(log, at, b"\tether"),
+        Place::Codel(c) => fields::past_number(log, at, c as u64),
+    }
+}
+
+// The same of a row's word and its date.
+pub fn past_date(log: &[u8], at: usize, date: u64) -> usize
+    requires { ⌜ at ≤ length (now log) ⌝ }
+    ensures { λ r. ⌜ r ≡ past (now (log .entry)) at (headText date) ⌝ }
+{
+    let p = text::past_bytes(log, at, b"state");
+    fields::past_number(log, p, date)
+}
+
+// Does an activity rest at ether, as most do?
+fn is_idle(y: Act) -> bool
+    ensures { λ r. ⌜ r ≡ isIdle y ⌝ }
+{
+    let p = y.place;
+    if !records::is_ether(p) {
+        return false;
+    }
+    if y.executing {
+        return false;
+    }
+    y.clock == 0
+}
+
+// The place behind an activity's part where it stands at a place; the end where it does not.
+pub fn past_act(log: &[u8], at: usize, y: Act) -> usize
+    requires { ⌜ (at ≤ length (now log)) × T (placeFits (y .place)) ⌝ }
+    ensures { λ r. ⌜ r ≡ past (now (log .entry)) at (fieldsText actForms (actValues y)) ⌝ }
+{
+    if is_idle(y) {
+        return text::past_bytes(log, at, b"\tether\t0\t0");
+    }
+    let p = y.place;
+    let a = past_place(log, at, p);
+    let b = fields::past_number(log, a, yes_value(y.executing));
+    fields::past_number(log, b, y.clock)
+}
+
+// The same of N and R of a task, by what stands beside the state.
+fn past_lists(
+    rows: &[u32],
+    index: &[u32],
+    log: &[u8],
+    at: usize,
+    listed: &[usize],
+    t: usize,
+    managing: bool,
+) -> usize
+    requires { ⌜ Prepared (now rows) (now index) × (t < tableIn (now rows) (now index) .ntasks) × (tableIn (now rows) (now index) .nacts ≤ length (now listed)) × (at ≤ length (now log)) × Unlisted (tableIn (now rows) (now index)) (now listed) t managing ⌝ }
+    ensures { λ r. ⌜ r ≡ past (now (log .entry)) at (fieldsText (aSet ∷ aSet ∷ []) (runBy (tableIn (now (rows .entry)) (now (index .entry))) (now (listed .entry)) t (tableIn (now (rows .entry)) (now (index .entry)) .nacts) ∷ haltBy (tableIn (now (rows .entry)) (now (index .entry))) (now (listed .entry)) t (tableIn (now (rows .entry)) (now (index .entry)) .nacts) ∷ [])) ⌝ }
+{
+    if !managing {
+        return text::past_bytes(log, at, b"\t0000000000000000\t0000000000000000");
+    }
+    let lists = lists_of(rows, index, listed, t);
+    let p = fields::past_set(log, at, lists.run);
+    fields::past_set(log, p, lists.halt)
+}
+
+// The same of a task's part, its N and R by what stands beside the state.
+pub fn past_task(
+    rows: &[u32],
+    index: &[u32],
+    log: &[u8],
+    at: usize,
+    listed: &[usize],
+    t: usize,
+    x: Task,
+) -> usize
+    requires { ⌜ Prepared (now rows) (now index) × (t < tableIn (now rows) (now index) .ntasks) × (tableIn (now rows) (now index) .nacts ≤ length (now listed)) × (at ≤ length (now log)) × T (holderFits (x .holder)) × Unlisted (tableIn (now rows) (now index)) (now listed) t (x .managing) ⌝ }
+    ensures { λ r. ⌜ r ≡ past (now (log .entry)) at (fieldsText taskForms (taskValues x (runBy (tableIn (now (rows .entry)) (now (index .entry))) (now (listed .entry)) t (tableIn (now (rows .entry)) (now (index .entry)) .nacts)) (haltBy (tableIn (now (rows .entry)) (now (index .entry))) (now (listed .entry)) t (tableIn (now (rows .entry)) (now (index .entry)) .nacts)))) ⌝ }
+{
+    let h = x.holder;
+    let a = fields::past_number(log, at, x.timer);
+    let b = fields::past_number(log, a, yes_value(x.signal));
+    let c = fields::past_number(log, b, yes_value(x.managing));
+    let d = past_holder(log, c, h);
+    let e = past_lists(rows, index, log, d, listed, t, x.managing);
+    let f = fields::past_number(log, e, x.cycle);
+    let g = fields::past_number(log, f, x.opened);
+    let i = fields::past_number(log, g, x.missed);
+    fields::past_number(log, i, x.longest)
 }

@@ -15,3 +15,4 @@ pub mod Halves
 pub mod Alike
 pub mod Fields
 pub mod Unique
+pub mod Standing

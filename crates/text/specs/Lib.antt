@@ -6,3 +6,4 @@ pub mod Words
 pub mod Fields
 pub mod Put
 pub mod Quoted
+pub mod Standing

@@ -11,6 +11,7 @@ ghost use Rattle.text.specs.Set.{bit, member, readSet, setText, bitsBetw
 ghost use Rattle.text.specs.Words.{sameList, wordIn, wordAt};
 ghost use Rattle.text.specs.Fields.{readTarget};
 ghost use Rattle.text.specs.Put.{Put};
+ghost use Rattle.text.specs.Standing.{past};
 
 // The byte that parts the fields of a line.
 pub const TAB: u8 = 9;
@@ -463,4 +464,64 @@ pub fn word_width(words: &[u8], i: usize) -> usize
         return 0;
     };
     to - from
+}
+
+// The place behind the k low digits of n where they stand at a place; the end where they do not.
+fn past_digits(s: &[u8], at: usize, base: u64, k: usize, n: u64) -> usize
+    requires { ⌜ (0 < base) × (base ≤ 16) × (at ≤ length (now s)) ⌝ }
+    ensures { λ r. ⌜ r ≡ past (now (s .entry)) at (pad base k n) ⌝ }
+{
+    if !fits(s.len(), at, k) {
+        return s.len();
+    }
+    let mut left = n;
+    let mut j = k;
+    while 0 < j {
+        j -= 1;
+        if s[at + j] != glyph(left % base) {
+            return s.len();
+        }
+        left /= base;
+    }
+    at + k
+}
+
+// The place behind a number where it stands at a place; the end where it does not.
+pub fn past_number(s: &[u8], at: usize, n: u64) -> usize
+    requires { ⌜ at ≤ length (now s) ⌝ }
+    ensures { λ r. ⌜ r ≡ past (now (s .entry)) at (digits n) ⌝ }
+{
+    past_digits(s, at, 10, width(n), n)
+}
+
+// The place behind bytes where they stand at a place; the end where they do not. All are compared, so that the compiler may compare many at
+// once.
+pub fn past_bytes(s: &[u8], at: usize, word: &[u8]) -> usize
+    requires { ⌜ at ≤ length (now s) ⌝ }
+    ensures { λ r. ⌜ r ≡ past (now (s .entry)) at (now (word .entry)) ⌝ }
+{
+    if !fits(s.len(), at, word.len()) {
+        return s.len();
+    }
+    let mut alike = true;
+    let mut i = 0;
+    while i < word.len() {
+        alike = alike & (s[at + i] == word[i]);
+        i += 1;
+    }
+    if alike {
+        return at + i;
+    }
+    s.len()
+}
+
+// The place behind the digits of a half of a set where they stand at a place; the end where they do not. Most are zeros.
+pub fn past_half(s: &[u8], at: usize, n: u64) -> usize
+    requires { ⌜ at ≤ length (now s) ⌝ }
+    ensures { λ r. ⌜ r ≡ past (now (s .entry)) at (pad 16 16 n) ⌝ }
+{
+    if n == 0 {
+        return past_bytes(s, at, b"0000000000000000");
+    }
+    past_digits(s, at, 16, HALF_DIGITS, n)
 }
