@@ -1,4 +1,4 @@
--- The line at a place of a log, and what playing on from there up to a `state` row comes to, with so much room for rows.
+-- The line at a place of a log, and what playing on from there up to a `state` row that does not go by comes to, with so much room for rows.
 use Prim.Native.Nat.{ℕ, _+_, _-_, _≤_, _<_}
 use mathlib.Core.Bool.{true, false}
 use mathlib.Core.List.{List, [], _∷_}

@@ -1,4 +1,4 @@
--- A log played up to its first `state` row, and from there on: together what the log comes to.
+-- A log played up to its first `state` row that does not go by, and from there on: together what the log comes to.
 use Prim.Native.Nat.{ℕ, _-_}
 use mathlib.Core.Bool.{true, false}
 use mathlib.Core.List.{List, [], _∷_, _++_, append-assoc}
@@ -94,7 +94,7 @@ module _ (K : Table) where
       (λ z. cases (beginsRow p) (λ y. rw (z, y) (from-row s c room (p ∷ q ∷ ps))) (λ y. rw (z, e, y)))
   on-line p q ps h s c room (Is x) e = rw e (on-step s c room x (p ∷ q ∷ ps) (q ∷ ps) (λ w d n. played K w d n (q ∷ ps)) (λ w d n. paused K w d n (q ∷ ps)) h)
 
-  -- what a log comes to is what it comes to from its first row on, behind what it came to up to there
+  -- what a log comes to is what it comes to from that row on, behind what it came to up to there
   pub plays-on : (ps : List (List ℕ)) (s : State) (c : Tally) (room : ℕ) → played K s c room ps ≡ playedOn room (paused K s c room ps)
   unfolding played paused
   plays-on [] s c room = refl

@@ -65,7 +65,7 @@ pub record Rows (lent : List ℕ) (place : ℕ) (buf : List ℕ) (end : ℕ) : T
   pub filled : end ≡ place + length text
   pub bytes : buf ≡ sets lent place text
 
--- and the lines from there up to a `state` row come, behind those rows, to what all come to from the start
+-- and the lines from there up to a row that does not go by come, behind those rows, to what all come to from the start
 pub record Plays (K : Table) (log : List ℕ) (from : ℕ) (s₀ : State) (c₀ : Tally) (lent : List ℕ) (place : ℕ) (s : State) (b l : List ℕ) (c : Tally) (at : ℕ) (buf : List ℕ) (filled : ℕ) : Type 0 where
   pub here : Stands K log from s b l c at
   pub rows : Rows lent place buf filled

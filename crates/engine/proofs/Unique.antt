@@ -1,4 +1,4 @@
--- The promise of a run leaves no choice, be it up to the first row or past them all: one result for a log, a place in it, what is carried
+-- The promise of a run leaves no choice, be it up to the first row that does not go by or past them all: one result for a log, a place in it, what is carried
 -- there and a buffer, and one content of the buffer.
 use Prim.Native.Nat.{ℕ, _+_, _≤_}
 use mathlib.Core.Bool.{false}
@@ -57,7 +57,7 @@ module _ {K : Table} {log : List ℕ} {from : ℕ} {g : Going} {buf : List ℕ} 
       same-result (sym (left-over K (h .text) (r₁ .going .state) (r₁ .going .tally) _ (r₁ .stop) (pieces log (r₁ .at)) a) ∙ h .played
       ∙ sym (k .played) ∙ left-over K (k .text) (r₂ .going .state) (r₂ .going .tally) _ (r₂ .stop) (pieces log (r₂ .at)) b)
 
--- two results of a run up to the first row are equal, and so are two contents of its buffer
+-- two results of a run up to the first row that does not go by are equal, and so are two contents of its buffer
 pub pauses-unique : {K : Table} {log : List ℕ} {from : ℕ} {g : Going} {buf : List ℕ} {place : ℕ} {r₁ r₂ : Ran} {after₁ after₂ : List ℕ}
     → Pauses K log from g buf place r₁ after₁ → Pauses K log from g buf place r₂ after₂ → (r₁ ≡ r₂) × (after₁ ≡ after₂)
 pauses-unique h k = same-result (h .runs) (k .runs) (h .paused ∙ sym (k .paused))

@@ -103,7 +103,7 @@ abbrev pub upToRow : Table → State → Tally → ℕ → List ℕ → Line →
 upToRow K s c room p line.Bad here rest go = pick (goesBy K s c p) (go s (afterRow c) room) (stopped s c (pick (beginsRow p) Row (Refused 11)) here)
 upToRow K s c room p (line.Is x) here rest go = onStep K s c room x here rest go
 
--- the lines of a log up to the first such row, with so much room for rows
+-- the lines of a log up to the first row that does not go by, with so much room for rows
 unfoldable pub paused : Table → State → Tally → ℕ → List (List ℕ) → Played
 paused K s c room [] = stopped s c End []
 paused K s c room (p ∷ []) = lastLine s c p

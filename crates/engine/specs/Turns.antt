@@ -20,7 +20,7 @@ use Rattle.engine.specs.declared.Stop.the-variants.{End, Refused, Row}
 abbrev pub lineAt : List ℕ → ℕ → ℕ → Line
 lineAt log at e = pick (eqb e (length log)) line.Bad (readStep setDigits (take (e - at) (drop at log)))
 
--- does a `state` row that goes by stand at a place, its line up to the newline at e?
+-- whether a `state` row that goes by stands at a place, its line up to the newline at e
 abbrev pub passesAt : Table → State → Tally → List ℕ → ℕ → ℕ → Bool
 passesAt K s c log at e = pick (eqb e (length log)) false (goesBy K s c (take (e - at) (drop at log)))
 

@@ -15,7 +15,8 @@ use report::Cycle;
 use tally::Ruling;
 use tally::Tally;
 
-// Why a run stopped: the log's end, a refused line, a kept cycle whose row has no room, or a `state` row, which is for the caller to take.
+// Why a run stopped: the log's end, a refused line, a kept cycle whose row has no room, or a `state` row that does not go
+// by, which is for the caller to take.
 pub enum Stop {
     End,
     Refused(u64),
@@ -23,7 +24,7 @@ pub enum Stop {
     Row,
 }
 
-// What is carried from run to run: the state, beside it the codel that each activity executes and whether it is in N or R, and the tally.
+// What is carried from run to run: the state, beside it the codel that each activity executes and in which of N and R it is, and the tally.
 pub struct Going {
     pub state: State,
     pub busy: [usize; model::MOST_ACTS],
@@ -94,8 +95,8 @@ fn left_at(
     }
 }
 
-// Plays a log from a place on, line after line, up to its end, the first refusal or a `state` row, and writes the row of each cycle that is kept as it
-// closes, as long as there is room.
+// Plays a log from a place on, line after line, up to its end, the first refusal or a `state` row that does not go by, and writes the row of each
+// cycle that is kept as it closes, as long as there is room. A `state` row behind line 1 that equals the state reached goes by.
 pub fn run(
     rows: &[u32],
     index: &[u32],

@@ -1,4 +1,4 @@
-// A log played with its `state` rows: the engine plays up to one, here it is taken, and the engine plays on.
+// A log played with its `state` rows: the engine plays up to one that does not go by, here it is taken or refused, and the engine plays on.
 ghost use Prim.Native.Nat.{_+_, _-_, _≤_};
 ghost use lib.ListN.{length};
 ghost use Rattle.prepared.specs.Prepared.{tableIn, Prepared};

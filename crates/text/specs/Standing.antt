@@ -6,7 +6,7 @@ use lib.ListN.{length, getD}
 use lib.Dec.{ltb, eqb}
 use Rattle.text.specs.Parts.{pick}
 
--- does the byte b stand at a place?
+-- whether the byte b stands at a place
 abbrev pub isAt : List ℕ → ℕ → ℕ → Bool
 isAt s at b = pick (ltb at (length s)) (eqb (getD s at 0) b) false
 

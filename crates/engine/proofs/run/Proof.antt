@@ -1,6 +1,7 @@
 -- `run` meets its contract. At the start of each line the state is sound, and behind the rows written the lines left come to what all
 -- come to from the start. Inside a wait the first tasks have been asked, and once all have been, the first tasks and their holders are
--- older. Inside an `sm` the first activities of its task are in N and R.
+-- older. Inside an `sm` the first activities of its task are in N and R. Behind the lines, where one is no step, the row of the state reached is
+-- looked for there part after part; where it stands, the lines are taken up again behind it.
 use Prim.Native.Nat.{_+_, _-_, _<_}
 use mathlib.Core.Logic.{⊎-elim}
 use mathlib.Core.Bool.{true, false}
