@@ -1,5 +1,7 @@
 // The conflict test: "no conflicting codel executes". Beside the state stands which codel each activity executes, so that the test walks
 // neither the state nor the mutex rows.
+#![tactic(auto)]
+
 ghost use Rattle.std.specs.Prelude.{◌≡◌, ◌<◌, ◌≤◌, length, T};
 ghost use Rattle.model.specs.Tables.{known};
 ghost use Rattle.prepared.specs.Prepared.{table_in, Prepared};

@@ -12,7 +12,7 @@ use Rattle.text.proofs.Picks.{cases}
 use Rattle.model.specs.declared.Line.{Line}
 use Rattle.model.specs.declared.Line.TheVariants.{Is, Bad}
 use Rattle.model.specs.declared.Step.{Step}
-use Rattle.log.specs.Lines.{set_digits, read_step}
+use Rattle.logs.specs.Lines.{set_digits, read_step}
 use Rattle.saved.specs.Rows.{begins_row}
 use Rattle.saved.proofs.Rows.{begins_no_step}
 use Rattle.engine.specs.Turns.{line_at, stop_at}

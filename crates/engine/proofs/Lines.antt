@@ -16,8 +16,8 @@ use Rattle.model.specs.Tables.{Table}
 use Rattle.model.specs.declared.State.{State}
 use Rattle.model.specs.declared.Step.{Step}
 use Rattle.model.specs.declared.Line.TheVariants.{Is, Bad}
-use Rattle.log.specs.Lines.{set_digits, read_step}
-use Rattle.log.proofs.Shapes.{no_step_lem}
+use Rattle.logs.specs.Lines.{set_digits, read_step}
+use Rattle.logs.proofs.Shapes.{no_step_lem}
 use Rattle.saved.specs.Rows.{begins_row}
 use Rattle.saved.proofs.Rows.{begins_no_step}
 use Rattle.engine.specs.Play.{Played, pieces, stopped, on_step, goes_by, up_to_row, paused, is_closed, is_row, AtRow}

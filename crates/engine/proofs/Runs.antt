@@ -1,13 +1,11 @@
 -- A run, line after line: what its loop keeps, where it stops, how an accepted step takes it on, and how the row of a kept cycle is told.
 use Prim.Native.Nat.{ℕ, ◌+◌, ◌-◌, ◌≤◌, ◌<◌}
 use mathlib.Core.Bool.{true, false}
-use mathlib.Core.List.{List, [], ◌∷◌, ◌++◌, append-nil}
+use mathlib.Core.List.{List, [], ◌++◌, append-nil}
 use mathlib.Core.Path.{◌≡◌, refl, ap, sym, subst⁻¹, ◌∙◌}
 use native.Mathlib.Omega.{arith}
 use borrow.Author.Tests.{ne_eqb, le-leb, lt-leb}
 use lib.Dec.{T}
-use types.Run.{OneOf, miss}
-use denote.Enum.Declared.{tag_of}
 use lib.ListN.{length, length-map, length-append}
 use lib.Seq.{sets, length-sets}
 use Rattle.text.specs.Parts.{first_at}
@@ -43,7 +41,6 @@ use Rattle.engine.specs.declared.Stop.{Stop}
 use Rattle.engine.specs.declared.Stop.TheVariants.{Refused, Closed}
 use Rattle.engine.specs.declared.Going.{Going}
 use Rattle.engine.specs.declared.Ran.{Ran}
-use Rattle.tally.specs.contracts.Ruling.{the_type}
 use Rattle.engine.proofs.Answers.{stop_step}
 use Rattle.engine.proofs.Lines.{at_end_lem, at_passed, at_unread, step_ends, at_step, step_stays, end_stays, stop_unclosed, row_there}
 use Rattle.engine.proofs.Pausing.{telling_more, played_on, plays_on}
@@ -249,9 +246,9 @@ module _ (K : Table) (log : List ℕ) (from : ℕ) (g : Going) (lent : List ℕ)
 -- what an accepted step comes to, by its verdict as the code has it
 module _ (s : State) (c : Tally) (room : ℕ) (ls : List (List ℕ)) (go : ℕ → Played) where
   -- every verdict but that it is kept
-  on_passed : (v : Verdict) → OneOf (0 ∷ 2 ∷ []) (tag_of the_type (ruling_of v)) → on_verdict v s c room ls go ≡ go room
+  on_passed : (v : Verdict) → ((k : Cycle) → ruling_of v ≡ Kept k → ⊥) → on_verdict v s c room ls go ≡ go room
   on_passed none h = refl
-  on_passed (kept r) h = absurd (miss (0 ∷ 2 ∷ []) 1 tt h)
+  on_passed (kept r) h = absurd (h _ refl)
   on_passed dropped h = refl
 
   on_kept_lem : (v : Verdict) (k : Cycle) → ruling_of v ≡ Kept k → on_verdict v s c room ls go ≡ on_kept k s c room ls go
@@ -388,8 +385,8 @@ module _ {σ : Scene} {w : State} {b l : List ℕ} {d : Tally} {v : Ruling} (G :
   played_after = played_here G.turn ∙ rw (G.accepted, G.state, G.tally)
 
   -- no cycle is kept
-  pub turn_passed : OneOf (0 ∷ 2 ∷ []) (tag_of the_type v) → {n : ℕ} → n ≡ 0 → Continues (table σ) σ.log σ.from σ.start.state σ.start.tally σ.lent σ.place w b l d (σ.newline + 1) σ.buf σ.filled n
-  turn_passed h z = record { none = z; plays = record { here = after; rows = rows; rest = sym (played_after ∙ ap (telling rows.text) (on_passed w d _ _ _ (given σ) (rw G.ruling at h))) } }
+  pub turn_passed : ((k : Cycle) → v ≡ Kept k → ⊥) → {n : ℕ} → n ≡ 0 → Continues (table σ) σ.log σ.from σ.start.state σ.start.tally σ.lent σ.place w b l d (σ.newline + 1) σ.buf σ.filled n
+  turn_passed h z = record { none = z; plays = record { here = after; rows = rows; rest = sym (played_after ∙ ap (telling rows.text) (on_passed w d _ _ _ (given σ) (λ k e. h k (G.ruling ∙ e)))) } }
 
   -- a cycle is kept, and its row asks for room
   module _ (k : Cycle) (i : v ≡ Kept k) (more : ℕ) (buf : List ℕ) (p : Put σ.buf σ.filled (cycle_text k) more buf) where

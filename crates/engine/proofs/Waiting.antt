@@ -17,8 +17,8 @@ use Rattle.model.specs.Cycles.{verdict}
 use Rattle.model.specs.declared.State.{State}
 use Rattle.model.specs.declared.Step.TheVariants.{Wait}
 use Rattle.model.specs.declared.Line.TheVariants.{Is}
-use Rattle.log.specs.Lines.{set_digits, read_step}
-use Rattle.log.proofs.Bounds.{read_step_bounds}
+use Rattle.logs.specs.Lines.{set_digits, read_step}
+use Rattle.logs.proofs.Bounds.{read_step_bounds}
 use Rattle.model.specs.declared.Holder.TheVariants.{Manager, Activity}
 use Rattle.model.proofs.Rows.{anew_past}
 use Rattle.model.proofs.Soundness.{holder_in}

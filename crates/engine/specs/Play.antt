@@ -14,7 +14,7 @@ use Rattle.model.specs.declared.Line.{Line}
 use Rattle.model.specs.declared.Line.TheVariants as line
 use Rattle.report.specs.Rows.{cycle_of, cycle_text}
 use Rattle.report.specs.declared.Cycle.{Cycle}
-use Rattle.log.specs.Lines.{set_digits, read_step}
+use Rattle.logs.specs.Lines.{set_digits, read_step}
 use Rattle.saved.specs.Rows.{begins_row}
 use Rattle.entries.specs.Entries.{row_refusal, Resumed, resumed}
 use Rattle.conflicts.specs.Busy.{busy_in}

@@ -1,4 +1,6 @@
 // The engine: a log played line after line on a state that is changed in place.
+#![tactic(auto)]
+
 ghost use Rattle.std.specs.Prelude.{◌≡◌, ◌-◌, ◌<◌, ◌≤◌, length};
 ghost use Rattle.prepared.specs.Prepared.{table_in, Prepared};
 ghost use Rattle.tally.specs.Tallies.{Roomy};
@@ -12,7 +14,7 @@ use tally::{Ruling, Tally};
 
 // Why a run stopped: the log's end, a refused line, a kept cycle whose row has no room, or a `state` row that does not go
 // by, which is for the caller to take.
-#[derive(Drop)]
+#[derive(Clone, Copy)]
 pub enum Stop {
     End,
     Refused(u64),
@@ -21,7 +23,7 @@ pub enum Stop {
 }
 
 // What is carried from run to run: the state, beside it the codel that each activity executes and in which of N and R it is, and the tally.
-#[derive(Drop)]
+#[derive(Clone, Copy)]
 pub struct Going {
     pub state: State,
     pub busy: [usize; model::MOST_ACTS],
@@ -31,7 +33,7 @@ pub struct Going {
 
 // A run: what it came to, the place in the log behind the last accepted line, the place behind the rows written, and why it stopped. A
 // cycle that it stopped at is not told yet: its row has no room.
-#[derive(Drop)]
+#[derive(Clone, Copy)]
 pub struct Ran {
     pub going: Going,
     pub at: usize,
@@ -47,7 +49,7 @@ fn line_at(log: &[u8], at: usize, e: usize) -> Line
     if e == log.len() {
         return Line::Bad;
     }
-    log::read_step(&log[at..e], log::SET_DIGITS)
+    logs::read_step(&log[at..e], logs::SET_DIGITS)
 }
 
 // Why a run stopped that no row's lack of room stopped: 0 is the log's end, any other number the refusal of the line at the place, unless that is

@@ -19,7 +19,7 @@ use Rattle.model.specs.Rows.{wellformed}
 use Rattle.model.specs.Sound.{sound}
 use Rattle.model.specs.declared.State.{State}
 use Rattle.model.proofs.Soundness.{sound_of}
-use Rattle.log.specs.Lines.{longest_row}
+use Rattle.logs.specs.Lines.{longest_row}
 use Rattle.fields.specs.Fields.{Part, part, none}
 use Rattle.prepared.specs.Prepared.{table_in, Prepared}
 use Rattle.saved.specs.Rows.{sets_within, row_line, row_text, refused, on_part, part_in, read_state}

@@ -1,10 +1,10 @@
 -- What a `state` row is under a table: one that sets the state is that state's own row.
-use Prim.Native.Nat.{ℕ, ◌+◌, ◌*◌, ◌≤◌}
+use Prim.Native.Nat.{ℕ, ◌*◌, ◌≤◌}
 use mathlib.Core.Bool.{Bool, true, false}
 use mathlib.Core.List.{List, [], ◌∷◌}
-use mathlib.Core.Path.{◌≡◌, refl, sym, ap, ◌∙◌}
+use mathlib.Core.Path.{◌≡◌, sym, ap, ◌∙◌}
 use native.Mathlib.Omega.{arith}
-use lib.Dec.{T, eqb}
+use lib.Dec.{T}
 use lib.ListN.{length, length-append}
 use borrow.Author.Tests.{le-leb, eqb-true}
 use Rattle.text.specs.Parts.{pick}
@@ -23,7 +23,7 @@ use Rattle.model.proofs.Tests.{true_T, T_true}
 use Rattle.model.proofs.Formed.{formed}
 use Rattle.model.proofs.Soundness.{Sound, sound_of, of_sound}
 use Rattle.model.proofs.Sums.{sum_bound}
-use Rattle.log.specs.Lines.{longest_row, set_digits, read_step}
+use Rattle.logs.specs.Lines.{longest_row, set_digits, read_step}
 use Rattle.saved.specs.Rows.{begins_row, row_line, read_state}
 use Rattle.saved.specs.declared.Read.{Read}
 use Rattle.saved.proofs.Rows.{row_back, row_is, begins_no_step, shaped_back}

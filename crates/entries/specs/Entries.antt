@@ -11,7 +11,7 @@ use Rattle.model.specs.Cycles.{Entry, step, row, neither}
 use Rattle.model.specs.declared.State.{State}
 use Rattle.model.specs.declared.Line.{Line}
 use Rattle.model.specs.declared.Line.TheVariants as line
-use Rattle.log.specs.Lines.{set_digits, read_step}
+use Rattle.logs.specs.Lines.{set_digits, read_step}
 use Rattle.saved.specs.Rows.{begins_row, row_line, refused, read_state}
 use Rattle.saved.specs.declared.Read.{Read}
 use Rattle.tally.specs.Tallies.{lines_of, after_row, began}

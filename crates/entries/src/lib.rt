@@ -1,4 +1,6 @@
 // What a `state` row does to a log: on line 1 it sets the state, on any later line it must equal the state reached.
+#![tactic(auto)]
+
 ghost use Rattle.std.specs.Prelude.{◌≡◌, T};
 ghost use Rattle.text.specs.Words.{same_list};
 ghost use Rattle.model.specs.Sound.{sound};
@@ -30,7 +32,7 @@ fn is_row_of(rows: &[u32], index: &[u32], line: &[u8], s: State) -> bool
     requires { Prepared rows.now index.now × T (sound (table_in rows.now index.now) s) }
     ensures { result ≡ same_list line.now (row_line (table_in rows.now index.now) s) }
 {
-    let mut row = [0u8; log::LONGEST_ROW];
+    let mut row = [0u8; logs::LONGEST_ROW];
     let n = saved::put_state(rows, index, s, &mut row);
     text::same(line, &row[..n - 1])
 }

@@ -22,7 +22,7 @@ use Rattle.text.proofs.Digits.{bad_is}
 use Rattle.text.proofs.Numbers.{width_within, width_bound, length_digits, digits_short, digits_free, read_digits, digits_read, number_below}
 use Rattle.text.proofs.Sets.{length_set_text, set_text_free, read_set_text, set_text_read}
 use Rattle.text.proofs.Words.{same_self, same_list_lem}
-use Rattle.log.specs.Lines.{set_digits}
+use Rattle.logs.specs.Lines.{set_digits}
 use Rattle.fields.specs.Forms.{a_yes, a_holder, a_set, a_place, most_digits, no_number, manager_word, word_or, yes_of, set_of, read_form, word_text, form_text, form_ok}
 
 -- a number of at most 13 digits is read as it is written

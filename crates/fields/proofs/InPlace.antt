@@ -22,7 +22,7 @@ use Rattle.text.proofs.Picks.{cases, order, passed, false_true}
 use Rattle.text.proofs.Digits.{bad_is, value_decimal, scan_append}
 use Rattle.text.proofs.Numbers.{width_within, width_bound, length_digits, read_digits, digits_read, number_below}
 use Rattle.text.proofs.Standing.{past_append, past_within}
-use Rattle.log.specs.Lines.{set_digits}
+use Rattle.logs.specs.Lines.{set_digits}
 use Rattle.fields.specs.Forms.{a_number, a_set, no_number, read_form, form_text, form_ok}
 use Rattle.fields.specs.Fields.{fields_text}
 use Rattle.fields.specs.Reading.{stood, nothing, is_digit, spelled, number_at, yes_at, word_at, set_by, set_at, Reads}

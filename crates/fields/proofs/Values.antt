@@ -14,7 +14,7 @@ use Rattle.text.specs.declared.Number.TheVariants as number
 use Rattle.text.specs.declared.Set.{Set}
 use Rattle.text.specs.declared.SetField.{SetField}
 use Rattle.text.specs.declared.SetField.TheVariants as set
-use Rattle.log.specs.Lines.{set_digits}
+use Rattle.logs.specs.Lines.{set_digits}
 use Rattle.fields.specs.Forms.{a_yes, a_holder, a_set, a_place, most_digits, no_number, manager_word, word_or, yes_of, set_of, read_form, word_text, form_text}
 
 -- yes or no

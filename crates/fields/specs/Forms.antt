@@ -10,7 +10,7 @@ use Rattle.text.specs.declared.Number.{Number}
 use Rattle.text.specs.declared.Number.TheVariants as number
 use Rattle.text.specs.declared.SetField.{SetField}
 use Rattle.text.specs.declared.SetField.TheVariants as set
-use Rattle.log.specs.Lines.{set_digits}
+use Rattle.logs.specs.Lines.{set_digits}
 
 -- the forms: a number, yes or no, who holds, a set, where an activity is
 abbrev pub a_number : ℕ

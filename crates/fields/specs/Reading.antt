@@ -5,7 +5,7 @@ use Rattle.text.specs.Set.{read_set}
 use Rattle.text.specs.Standing.{is_at, past}
 use Rattle.text.specs.declared.SetField.{SetField}
 use Rattle.text.specs.declared.SetField.TheVariants as set
-use Rattle.log.specs.Lines.{set_digits}
+use Rattle.logs.specs.Lines.{set_digits}
 use Rattle.fields.specs.Forms.{no_number}
 use Rattle.fields.specs.declared.Stood.{Stood}
 

@@ -1,5 +1,7 @@
 // The fields of a `state` row: what each says by its form, read from a line and written into a buffer, one after another as a description
 // lists their forms. A field's value is one number.
+#![tactic(auto)]
+
 ghost use Rattle.std.specs.Prelude.{◌≡◌, ◌∷◌, ◌+◌, ◌*◌, ◌≤◌, length};
 ghost use Rattle.std.proofs.lemmas.List.Edits.{sets};
 ghost use Rattle.text.specs.Number.{digits};
@@ -30,14 +32,14 @@ pub const A_SET: usize = 3;
 pub const A_PLACE: usize = 4;
 
 // Where the fields that were read end, or bad form.
-#[derive(Drop)]
+#[derive(Clone, Copy)]
 pub enum End {
     At(usize),
     Bad,
 }
 
 // A field that was read in place: its value and the place behind it, or the end where it does not read.
-#[derive(Drop)]
+#[derive(Clone, Copy)]
 pub struct Stood {
     pub value: u64,
     pub end: usize,
@@ -87,7 +89,7 @@ fn read_form(form: usize, p: &[u8]) -> Number
         return word_or(b"ether", p);
     }
     if form == A_SET {
-        return set_of(text::read_set(p, log::SET_DIGITS));
+        return set_of(text::read_set(p, logs::SET_DIGITS));
     }
     if form == A_YES {
         return yes_of(text::read_number(p, 1));
@@ -176,7 +178,7 @@ fn put_form(buf: &mut [u8], at: usize, form: usize, v: u64) -> usize
         return put_word_or(buf, at, b"ether", v);
     }
     if form == A_SET {
-        return text::put_set(buf, at, log::SET_DIGITS, Set { low: v, high: 0 });
+        return text::put_set(buf, at, logs::SET_DIGITS, Set { low: v, high: 0 });
     }
     text::put_number(buf, at, v)
 }
@@ -332,14 +334,14 @@ pub fn set_at(s: &[u8], at: usize) -> Stood
     if p < s.len() {
         return Stood { value: 0, end: p };
     }
-    if s.len() - at < 1 + log::SET_DIGITS {
+    if s.len() - at < 1 + logs::SET_DIGITS {
         return unread(s);
     }
     if s[at] != text::TAB {
         return unread(s);
     }
-    let e = at + 1 + log::SET_DIGITS;
-    let SetField::Is(n) = text::read_set(&s[at + 1..e], log::SET_DIGITS) else {
+    let e = at + 1 + logs::SET_DIGITS;
+    let SetField::Is(n) = text::read_set(&s[at + 1..e], logs::SET_DIGITS) else {
         return unread(s);
     };
     Stood {

@@ -19,11 +19,11 @@ use Rattle.streaming.specs.declared.Turn.{Turn}
 use Rattle.streaming.proofs.Turning.{fresh_resumes, turn_resumes, turn_roomy}
 
 -- how many blocks are read at most
-abbrev most_blocks : ℕ
+abbrev pub most_blocks : ℕ
 most_blocks = 1099511627776
 
 -- the room for what is told of a block
-abbrev told_room : ℕ
+abbrev pub told_room : ℕ
 told_room = 172032
 
 -- behind so many blocks the counts have room for those to come, a line more in each

@@ -1,11 +1,14 @@
 // The program judge: a table and a log from standard input, the report to standard output. It reads a block, asks what is told of it and
 // writes that, so that memory does not grow with the log; what the bytes are is decided in streaming.
+#![tactic(auto)]
+
 ghost use Rattle.std.specs.Prelude.{◌≤◌, length};
 ghost use Rattle.prepared.specs.Prepared.{Prepared};
 ghost use Rattle.table.specs.Checks.{Passes};
 ghost use Rattle.streaming.specs.Turns.{most_block};
 
-use libc::STDOUT_FILENO;
+use std::io;
+use std::io::{Read, Write};
 use table::Table;
 
 // Room for the header, or for the report on a refused table.
@@ -15,8 +18,16 @@ const OPENING: usize = 256;
 const ROOM: usize = 172032;
 
 // Judges the log block after block, up to its end or the first refusal. So many bytes of it stand at the front of the first block already.
-// Where a write fails nobody reads on, and the program ends.
-fn judge_blocks(rows: &[u32], index: &[u32], block: &mut [u8], start: usize, last: bool)
+// Where a read or a write fails the program ends with that error.
+fn judge_blocks<R: Read, W: Write>(
+    input: &mut R,
+    output: &mut W,
+    rows: &[u32],
+    index: &[u32],
+    block: &mut [u8],
+    start: usize,
+    last: bool,
+) -> io::Result<()>
     requires { Prepared rows.now index.now × (start ≤ length block.old) × (length block.old ≤ most_block) }
 {
     let mut out = [0u8; ROOM];
@@ -28,41 +39,49 @@ fn judge_blocks(rows: &[u32], index: &[u32], block: &mut [u8], start: usize, las
         turns += 1;
         let turn = streaming::judge_block(rows, index, block, have, ended, g, &mut out);
         let told = turn.told;
-        if !io::write_all(STDOUT_FILENO, &out[..told]) {
-            return;
-        }
+        output.write_all(&out[..told])?;
         if turn.over {
-            return;
+            return Ok(());
         }
         g = turn.going;
         have = turn.held;
-        let got = blocks::read_behind(block, have);
+        let got = blocks::read_behind(input, block, have)?;
         have += got;
         ended = got == 0;
     }
+    Ok(())
 }
 
 // Judges the log against an accepted table.
-fn judge_log(t: Table, block: &mut [u8], have: usize, ended: bool)
+fn judge_log<R: Read, W: Write>(
+    input: &mut R,
+    output: &mut W,
+    t: Table,
+    block: &mut [u8],
+    have: usize,
+    ended: bool,
+) -> io::Result<()>
     requires { Passes t × (have ≤ length block.old) × (length block.old ≤ most_block) }
 {
     let index = preparing::index_of(t);
     let rows = t.rows;
-    judge_blocks(&rows, &index, block, have, ended);
+    judge_blocks(input, output, &rows, &index, block, have, ended)
 }
 
-fn main() {
+fn main(rt: HostRuntime) -> io::Result<()> {
+    let mut input = rt.stdin();
+    let mut output = rt.stdout();
     let mut out = [0u8; OPENING];
     let mut block = [0u8; blocks::BLOCK];
-    let start = blocks::read_start(&mut block);
+    let start = blocks::read_start(&mut input, &mut block)?;
     let have = start.have;
     let opened = streaming::open_table(&mut block, have, &mut out);
     let told = opened.told;
     let held = opened.held;
     let t = opened.table;
-    if io::write_all(STDOUT_FILENO, &out[..told]) {
-        if opened.fine {
-            judge_log(t, &mut block, held, start.ended);
-        }
+    output.write_all(&out[..told])?;
+    if opened.fine {
+        judge_log(&mut input, &mut output, t, &mut block, held, start.ended)?;
     }
+    Ok(())
 }

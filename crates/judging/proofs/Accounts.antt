@@ -17,7 +17,7 @@ use Rattle.model.specs.Cycles.{Verdict, none, kept, dropped, verdict}
 use Rattle.model.specs.declared.State.{State}
 use Rattle.model.specs.declared.Line.{Line}
 use Rattle.model.specs.declared.Line.TheVariants as line
-use Rattle.log.specs.Lines.{longest_line, longest_row, set_digits, read_step}
+use Rattle.logs.specs.Lines.{longest_line, longest_row, set_digits, read_step}
 use Rattle.saved.specs.Rows.{begins_row}
 use Rattle.entries.specs.Entries.{row_number, row_refusal, resumed}
 use Rattle.entries.proofs.Owning.{RowLaws}

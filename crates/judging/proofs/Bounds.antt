@@ -17,7 +17,7 @@ use Rattle.text.proofs.Parts.{join_split}
 use Rattle.text.proofs.Words.{word_read}
 use Rattle.text.proofs.Numbers.{digits_read, digits_short, length_digits, width_within}
 use Rattle.text.proofs.Sets.{set_length}
-use Rattle.model.specs.Tests.{◌and◌, one, each, sum, accepted}
+use Rattle.model.specs.Tests.{◌and◌, one, each, accepted}
 use Rattle.model.specs.Limits.{most_tasks, most_ticks, ceiling}
 use Rattle.model.specs.Tables.{Table}
 use Rattle.model.specs.Rows.{wellformed}
@@ -40,9 +40,9 @@ use Rattle.model.proofs.StepsKeep.{step_keeps}
 use Rattle.model.proofs.Verdicts.{verdict_at_fm}
 use Rattle.model.proofs.Sums.{sum_bound}
 use Rattle.model.proofs.Reports.{steps_accepted}
-use Rattle.log.specs.Lines.{step_words, set_digits, a_number, read_step}
-use Rattle.log.proofs.Words.{nine, nine_words}
-use Rattle.log.proofs.Shapes.{either, Shapes, shaped}
+use Rattle.logs.specs.Lines.{step_words, set_digits, a_number, read_step}
+use Rattle.logs.proofs.Words.{nine, nine_words}
+use Rattle.logs.proofs.Shapes.{either, Shapes, shaped}
 use Rattle.saved.specs.Rows.{begins_row}
 use Rattle.entries.specs.Entries.{row_state, row_number, row_refusal, entry_by, entries_in, sets}
 use Rattle.entries.proofs.Owning.{RowLaws}

@@ -20,7 +20,7 @@ use Rattle.model.proofs.Soundness.{Sound}
 use Rattle.model.proofs.StepsKeep.{reached_sound}
 use Rattle.model.proofs.Reports.{steps_accepted}
 use Rattle.model.proofs.Cuts.{Cut, cut}
-use Rattle.log.specs.Lines.{set_digits, read_step}
+use Rattle.logs.specs.Lines.{set_digits, read_step}
 use Rattle.saved.specs.Rows.{begins_row, row_line, row_text}
 use Rattle.entries.specs.Entries.{row_state, row_number, row_refusal, entry_by, entries_in, start_of}
 use Rattle.saved.proofs.Rows.{row_begins, row_free}

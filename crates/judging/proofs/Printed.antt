@@ -15,7 +15,7 @@ use Rattle.model.specs.Rules.{anew, first, within, none_in, urgent_task, urgent_
 use Rattle.model.specs.Logs.{all_accepted, reached, most}
 use Rattle.model.specs.Cases.{table_k, table_m, bench_cases, holds_in, all_hold, past_too, bench_holds, same_rows}
 use Rattle.model.specs.Cycles.{verdict, opened_in, kept_in, dropped_in, managing, steps_of, lines_done, stop_on, report}
-use Rattle.log.specs.Lines.{step_words, read_step}
+use Rattle.logs.specs.Lines.{step_words, read_step}
 use Rattle.saved.specs.Rows.{state_word, begins_row}
 use Rattle.entries.specs.Entries.{entry_by, entries_in, start_of}
 use Rattle.row.specs.Kinds.{fields_of, most_of, form_of, kind_in, kind_words, mode_words}

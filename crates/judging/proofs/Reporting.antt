@@ -1,15 +1,12 @@
 -- A report written: the header, the row of each cycle as it is kept, and the `sum` row; and its width, found without writing into it.
 use Prim.Native.Nat.{ℕ, ◌+◌, ◌-◌, ◌≤◌, ◌<◌}
 use mathlib.Core.Path.{◌≡◌, refl, sym, ap, subst, subst⁻¹, ◌∙◌}
-use mathlib.Core.List.{List, [], ◌∷◌, ◌++◌}
+use mathlib.Core.List.{List, ◌++◌}
 use mathlib.Core.Bool.{Bool, true, false, not}
-use mathlib.Core.Logic.{inl, inr}
 use native.Mathlib.Omega.{arith}
 use lib.ListN.{length, length-append}
 use lib.Seq.{length-sets}
 use lib.Dec.{T, leb}
-use denote.Enum.Declared
-use types.Run.{OneOf}
 use borrow.Author.Tests.{le-leb, lt-leb, leb-true, leb-false, not-true, not-false}
 use Rattle.text.specs.Put.{Put}
 use Rattle.text.proofs.Puts.{put_fits}
@@ -38,7 +35,6 @@ use Rattle.engine.specs.declared.Stop.{Stop}
 use Rattle.engine.specs.declared.Stop.TheVariants.{End, Refused, Closed, Row}
 use Rattle.engine.specs.declared.Going.{Going}
 use Rattle.engine.specs.declared.Ran.{Ran}
-use Rattle.engine.specs.contracts.Stop as kinds
 use Rattle.engine.proofs.Starting.{fresh_ready, roomy}
 use Rattle.playing.specs.Plays.{Plays}
 use Rattle.judging.specs.Report.{report_text, log_text, report_on, refusal_of, surely}
@@ -59,12 +55,10 @@ pub has_room : (n room : ℕ) {fit : Bool} → fit ≡ leb n room → not fit �
 has_room n room {fit} e y = leb-true n room (sym e ∙ not-false fit y)
 
 -- a run that stopped at the log's end, at a refusal or at a row did not stop at a cycle
-pub not_closed : (w : Stop) → OneOf (0 ∷ 1 ∷ 3 ∷ []) (Declared.tag_of kinds.the_type w) → is_closed w ≡ false
+pub not_closed : (w : Stop) → ((k : Cycle) → w ≡ Closed k → ⊥) → is_closed w ≡ false
 not_closed End o = refl
 not_closed (Refused n) o = refl
-not_closed (Closed k) (inl e) = absurd (omega arith)
-not_closed (Closed k) (inr (inl e)) = absurd (omega arith)
-not_closed (Closed k) (inr (inr e)) = absurd (omega arith)
+not_closed (Closed k) o = absurd (o k refl)
 not_closed Row o = refl
 
 -- and one that stopped at a cycle did

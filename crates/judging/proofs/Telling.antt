@@ -10,9 +10,9 @@ use lib.Dec.{eqb}
 use borrow.Author.Tests.{ne_eqb}
 use Rattle.text.specs.Parts.{pick, split_on}
 use Rattle.text.proofs.Picks.{cases, false_true}
-use Rattle.model.specs.Tests.{◌and◌, one, accepted}
+use Rattle.model.specs.Tests.{◌and◌, accepted}
 use Rattle.model.specs.Tables.{Table}
-use Rattle.model.specs.States.{fresh, task_at}
+use Rattle.model.specs.States.{fresh}
 use Rattle.model.specs.Rules.{refusal, next}
 use Rattle.model.specs.Logs.{reached, is_wait, most}
 use Rattle.model.specs.Cycles.{KeptRow, SumRow, Verdict, none, kept, dropped, verdict, with_kept, kept_in, drops, dropped_in, opened_in, opens, managing, Entry, step, row, neither, steps_of, lines_done, stop_on, line_of, report_of, report}
@@ -21,8 +21,8 @@ use Rattle.model.specs.declared.Step.{Step}
 use Rattle.model.specs.declared.Line.{Line}
 use Rattle.model.specs.declared.Line.TheVariants as line
 use Rattle.model.proofs.Balance.{fresh_managing}
-use Rattle.log.specs.Lines.{set_digits, read_step}
-use Rattle.log.proofs.Shapes.{no_step_lem}
+use Rattle.logs.specs.Lines.{set_digits, read_step}
+use Rattle.logs.proofs.Shapes.{no_step_lem}
 use Rattle.saved.specs.Rows.{begins_row}
 use Rattle.entries.specs.Entries.{row_state, row_number, row_refusal, entry_by, entries_in, sets, start_of, resumed}
 use Rattle.entries.proofs.Owning.{RowLaws}

@@ -1,4 +1,6 @@
 // The judge: a log judged against a table, and the report written. What the program streams and what the recorder calls is one work.
+#![tactic(auto)]
+
 ghost use Rattle.std.specs.Prelude.{◌≡◌, ◌≤◌, length, leb};
 ghost use Rattle.text.specs.Put.{Put};
 ghost use Rattle.model.specs.Cycles.{refused_report};
@@ -156,8 +158,7 @@ fn judge_log(t: Table, log: &[u8], report: &mut [u8]) -> usize
 
 // The recorder's call: judges a log against a table's text and writes the report. Answers its length, or 0 where it does not fit; the
 // buffer is then unchanged, and so are the bytes past a report. No report is empty, so 0 says that and nothing else.
-#[unsafe(no_mangle)]
-pub extern "C" fn judge(table: &[u8], log: &[u8], report: &mut [u8]) -> usize
+pub fn judge(table: &[u8], log: &[u8], report: &mut [u8]) -> usize
     ensures { Put report.old 0 (report_on table.now log.now) result report.new }
 {
     let read = table::read_table(table);

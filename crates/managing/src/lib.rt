@@ -1,5 +1,7 @@
 // `sm` and the sets N and R: whether a set lies within its task, what `sm` asks and does on the records, and whether N and R are empty.
 // Beside the state stands in which of N and R each activity is, so that `fm` walks no records.
+#![tactic(auto)]
+
 ghost use Rattle.std.specs.Prelude.{◌≡◌, ◌<◌, ◌≤◌, true, length};
 ghost use Rattle.model.specs.Rules.{within, listed};
 ghost use Rattle.prepared.specs.Prepared.{table_in, Prepared};

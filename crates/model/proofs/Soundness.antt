@@ -5,7 +5,7 @@ use mathlib.Core.Logic.{⊎_elim}
 use Prim.Native.Nat.{ℕ, zero, suc, ◌+◌, ◌≤◌, ◌<◌, zero-le}
 use lib.Dec.{T, leb, ltb, leb→le, le→leb, ltb→lt, eqb→eq, lit≤, T_not}
 use lib.ListN.{length, get_or, replicate}
-use Rattle.model.specs.Tests.{◌and◌, ◌implies◌, one, each}
+use Rattle.model.specs.Tests.{◌and◌, ◌implies◌, each}
 use Rattle.model.specs.Limits.{most_tasks, most_acts, most_ticks, ceiling}
 use Rattle.model.specs.Tables.{Table, is_ether}
 use Rattle.model.specs.States.{no_task, no_act, fresh, task_at, act_at, by_manager, held_by}

@@ -1,5 +1,7 @@
 // The component as document 01 sees it while it runs: the state, and the steps that change it. The rules are in specs/, and what is
 // proved of them in proofs/; the only code here is a limit's test.
+#![tactic(auto)]
+
 ghost use Rattle.std.specs.Prelude.{◌≡◌};
 ghost use Rattle.model.specs.Limits.{in_range};
 
@@ -27,21 +29,21 @@ pub const MOST_TICKS: u64 = 1000000000;
 pub const CEILING: u64 = 1000000000000;
 
 // Where an activity is, or where an edge or a step leads: ether or a codel.
-#[derive(Drop)]
+#[derive(Clone, Copy)]
 pub enum Place {
     Ether,
     Codel(usize),
 }
 
 // Who holds a task: its manager or one of its activities.
-#[derive(Drop)]
+#[derive(Clone, Copy)]
 pub enum Holder {
     Manager,
     Activity(usize),
 }
 
 // One task's record.
-#[derive(Drop)]
+#[derive(Clone, Copy)]
 pub struct Task {
     pub timer: u64,
     pub signal: bool,
@@ -54,7 +56,7 @@ pub struct Task {
 }
 
 // One activity's record; `run` says that it is in its task's set N, `halt` that it is in R.
-#[derive(Drop)]
+#[derive(Clone, Copy)]
 pub struct Act {
     pub place: Place,
     pub executing: bool,
@@ -64,7 +66,7 @@ pub struct Act {
 }
 
 // The state of a component; rows past the table's counts are fresh.
-#[derive(Drop)]
+#[derive(Clone, Copy)]
 pub struct State {
     pub date: u64,
     pub tasks: [Task; MOST_TASKS],
@@ -72,14 +74,14 @@ pub struct State {
 }
 
 // What a step of a task alone does.
-#[derive(Drop)]
+#[derive(Clone, Copy)]
 pub enum TaskStep {
     St,
     Fm,
 }
 
 // What a step of an activity does; `lm` names the task that lets it run, `ea` and `fa` where it goes.
-#[derive(Drop)]
+#[derive(Clone, Copy)]
 pub enum ActStep {
     Lm(usize),
     Ia,
@@ -89,7 +91,7 @@ pub enum ActStep {
 }
 
 // A step, with the numbers and sets of its log line: what it is of, and then which.
-#[derive(Drop)]
+#[derive(Clone, Copy)]
 pub enum Step {
     Wait(u64),
     Sm(usize, Set, Set),
@@ -98,7 +100,7 @@ pub enum Step {
 }
 
 // What a log line says: a step, or none.
-#[derive(Drop)]
+#[derive(Clone, Copy)]
 pub enum Line {
     Is(Step),
     Bad,

@@ -8,8 +8,6 @@ use borrow.Author.Tests.{ne_eqb}
 use lib.Dec.{T, eqb}
 use lib.ListN.{length, take, drop, length-append, length-drop}
 use lib.Seq.{length-take-le}
-use types.Run.{OneOf, miss}
-use denote.Enum.Declared.{tag_of}
 use Rattle.text.specs.Parts.{first_at}
 use Rattle.text.proofs.Picks.{cases, false_true}
 use Rattle.text.proofs.Puts.{sets_append}
@@ -20,7 +18,7 @@ use Rattle.model.specs.Cycles.{managing}
 use Rattle.model.specs.Sound.{sound}
 use Rattle.model.specs.declared.State.{State}
 use Rattle.model.proofs.Soundness.{of_sound}
-use Rattle.log.specs.Lines.{set_digits, read_step}
+use Rattle.logs.specs.Lines.{set_digits, read_step}
 use Rattle.saved.specs.Rows.{begins_row}
 use Rattle.entries.specs.Entries.{row_state, row_number, row_refusal, resumed}
 use Rattle.entries.proofs.Owning.{RowLaws}
@@ -32,7 +30,6 @@ use Rattle.engine.specs.declared.Stop.{Stop}
 use Rattle.engine.specs.declared.Stop.TheVariants.{End, Refused, Closed, Row}
 use Rattle.engine.specs.declared.Going.{Going}
 use Rattle.engine.specs.declared.Ran.{Ran}
-use Rattle.engine.specs.contracts.Stop.{the_type}
 use Rattle.engine.proofs.Lines.{first_line}
 use Rattle.engine.proofs.Pausing.{telling_more, left_over}
 use Rattle.engine.proofs.Runs.{Rows, rows_kept}
@@ -159,17 +156,17 @@ module _ {K : Table} {log : List ℕ} {from : ℕ} {start : Going} {lent : List 
   run_kept = rows_kept behind.rows
 
   -- it leaves at no row: it is over
-  pub run_over : OneOf (0 ∷ 1 ∷ 2 ∷ []) (tag_of the_type r.stop) → Plays K log from start lent place r after
+  pub run_over : (r.stop ≡ Row → ⊥) → Plays K log from start lent place r after
   run_over h =
       let o = no_row r.stop h in
       over_at K log from start behind r.stop o (λ t. omega (arith, Z.here.within, R.onward t))
       (all_played _ (sym (left_over K R.text r.going.state r.going.tally _ r.stop (pieces log r.at) o) ∙ R.played))
     where
-      no_row : (w : Stop) → OneOf (0 ∷ 1 ∷ 2 ∷ []) (tag_of the_type w) → is_row w ≡ false
+      no_row : (w : Stop) → (w ≡ Row → ⊥) → is_row w ≡ false
       no_row End h = refl
       no_row (Refused n) h = refl
       no_row (Closed k) h = refl
-      no_row Row h = absurd (miss (0 ∷ 1 ∷ 2 ∷ []) 3 tt h)
+      no_row Row h = absurd (h refl)
 
   -- it leaves at a row: this one is met
   pub run_meets : RowLaws K → r.stop ≡ Row → {e : ℕ} → e ≡ first_at log r.at 10 → Met K log from start lent place r.going r.at after r.filled e

@@ -1,4 +1,6 @@
 // A log played with its `state` rows: the engine plays up to one that does not go by, here it is taken or refused, and the engine plays on.
+#![tactic(auto)]
+
 ghost use Rattle.std.specs.Prelude.{◌+◌, ◌-◌, ◌≤◌, length};
 ghost use Rattle.prepared.specs.Prepared.{table_in, Prepared};
 ghost use Rattle.tally.specs.Tallies.{Roomy};
@@ -8,7 +10,7 @@ ghost use Rattle.playing.specs.Plays.{Resumes, Begins, Plays};
 use engine::{Going, Ran, Stop};
 
 // A `state` row that was taken: 0 and what goes on behind it, or its refusal and what was there before it.
-#[derive(Drop)]
+#[derive(Clone, Copy)]
 struct Resumed {
     number: u64,
     going: Going,
@@ -51,7 +53,7 @@ fn resume(rows: &[u32], index: &[u32], line: &[u8], g: Going) -> Resumed
 }
 
 // Where a log goes on: what is carried there, and the place.
-#[derive(Drop)]
+#[derive(Clone, Copy)]
 struct Begun {
     going: Going,
     at: usize,

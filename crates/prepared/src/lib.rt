@@ -1,4 +1,6 @@
 // The prepared table: lookups in the rows of an accepted table, by an index of what follows from them. Each answers as the model's definition.
+#![tactic(auto)]
+
 ghost use Rattle.std.specs.Prelude.{◌≡◌, ◌+◌, ◌<◌, ◌≤◌, length, get_or, take, T, ltb};
 ghost use Rattle.model.specs.Tables.{safe, has_edge, is_start, known};
 ghost use Rattle.model.specs.Rules.{stop_of};

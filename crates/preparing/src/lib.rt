@@ -1,4 +1,6 @@
 // Fills the index of an accepted table.
+#![tactic(auto)]
+
 ghost use Rattle.std.specs.Prelude.{◌≡◌, ℕ, ◌+◌, ◌≤◌, ◌<◌, length, get_or, eqb};
 ghost use Rattle.text.specs.Parts.{pick};
 ghost use Rattle.model.specs.Limits.{most_acts, most_codels, most_edges, most_mutexes};

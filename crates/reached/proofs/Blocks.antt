@@ -30,10 +30,10 @@ pub cut_inside : (block : List ℕ) (have cut : ℕ) → cut ≡ cut_of (take ha
 cut_inside block have cut e = omega (arith, cut_within (take have block) cut e, length-take have block)
 
 -- how many blocks are read at most, and how long one is at most
-abbrev most_blocks : ℕ
+abbrev pub most_blocks : ℕ
 most_blocks = 1099511627776
 
-abbrev most_block : ℕ
+abbrev pub most_block : ℕ
 most_block = 65536
 
 -- behind so many blocks the counts have room for those to come

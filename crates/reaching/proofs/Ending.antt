@@ -23,8 +23,8 @@ use Rattle.model.proofs.Formed.{formed}
 use Rattle.model.proofs.Soundness.{Sound}
 use Rattle.model.proofs.StepsKeep.{reached_sound}
 use Rattle.model.proofs.Reports.{steps_accepted}
-use Rattle.log.specs.Lines.{set_digits, read_step}
-use Rattle.log.proofs.Shapes.{no_step_lem}
+use Rattle.logs.specs.Lines.{set_digits, read_step}
+use Rattle.logs.proofs.Shapes.{no_step_lem}
 use Rattle.saved.specs.Rows.{begins_row}
 use Rattle.entries.specs.Entries.{row_state, row_number, row_refusal, entry_by, entries_in, sets, Resumed, stays as still, resumed}
 use Rattle.entries.proofs.Owning.{RowLaws, row_laws}

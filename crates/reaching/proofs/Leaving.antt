@@ -19,7 +19,7 @@ use Rattle.model.specs.declared.Step.{Step}
 use Rattle.model.specs.declared.Step.TheVariants.{Wait, Sm, OfTask, OfAct}
 use Rattle.model.specs.declared.Line.{Line}
 use Rattle.model.specs.declared.Line.TheVariants as line
-use Rattle.log.specs.Lines.{set_digits, read_step}
+use Rattle.logs.specs.Lines.{set_digits, read_step}
 use Rattle.saved.specs.Rows.{begins_row}
 use Rattle.entries.specs.Entries.{row_state, row_number, row_refusal, resumed}
 use Rattle.entries.proofs.Owning.{RowLaws, row_laws}

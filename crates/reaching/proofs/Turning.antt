@@ -7,7 +7,6 @@ use native.Mathlib.Omega.{arith}
 use lib.Dec.{eqb}
 use lib.ListN.{length, take}
 use lib.Seq.{slice}
-use denote.Enum.Declared
 use Rattle.text.specs.Parts.{split_on}
 use Rattle.text.specs.Put.{Put}
 use Rattle.text.proofs.Picks.{false_true}
@@ -17,11 +16,11 @@ use Rattle.model.proofs.Tests.{true_T}
 use Rattle.tally.specs.Tallies.{Roomy}
 use Rattle.tally.specs.declared.Tally.{Tally}
 use Rattle.engine.specs.Play.{pieces, is_closed, is_row, Ready}
+use Rattle.report.specs.declared.Cycle.{Cycle}
 use Rattle.engine.specs.declared.Stop.{Stop}
 use Rattle.engine.specs.declared.Stop.TheVariants.{End, Refused, Closed, Row}
 use Rattle.engine.specs.declared.Going.{Going}
 use Rattle.engine.specs.declared.Ran.{Ran}
-use Rattle.engine.specs.contracts.Stop as kinds
 use Rattle.playing.specs.Plays.{Plays}
 use Rattle.playing.proofs.Resuming.{going_same}
 use Rattle.judging.specs.Report.{refusal_of}
@@ -47,11 +46,8 @@ pub left_all : {K : Table} {log : List ℕ} {g : Going} → Ready K g → Roomy 
 left_all {log = log} {g = g} r h = let e : length log ≡ length log - 0 = omega arith in record { same = refl; within = omega arith; ready = r; roomy = subst (Roomy g.tally) e h }
 
 -- a stop at a kept cycle, by the code's match
-is_closed_lem : (w : Stop) → Declared.tag_of kinds.the_type w ≡ 2 → is_closed w ≡ true
-is_closed_lem End e = absurd (omega arith)
-is_closed_lem (Refused n) e = absurd (omega arith)
-is_closed_lem (Closed k) e = refl
-is_closed_lem Row e = absurd (omega arith)
+is_closed_lem : (w : Stop) {k : Cycle} → w ≡ Closed k → is_closed w ≡ true
+is_closed_lem w e = rw e
 
 -- from there on the log goes on
 gone_more : (K : Table) (s : State) (c : Tally) (w : Stop) (rest : List (List ℕ)) → is_closed w ≡ true → gone_on K s c w rest ≡ passed K s c rest
@@ -69,7 +65,7 @@ gone_over K s c Row rest o r = absurd (false_true (sym r))
 
 module _ {K : Table} {log : List ℕ} {g₀ g : Going} {at : ℕ} (l : Left K log g₀ g at) {buf : List ℕ} {r : Ran} {after : List ℕ} (h : Plays K log at g buf 0 r after) where
   -- behind a kept cycle
-  module _ (e : Declared.tag_of kinds.the_type r.stop ≡ 2) where
+  module _ {k : Cycle} (e : r.stop ≡ Closed k) where
     -- the log goes on
     pub left_more : Left K log g₀ r.going r.at
     left_more = record {

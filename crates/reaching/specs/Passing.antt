@@ -1,5 +1,5 @@
 -- A log gone through line after line, with nothing told of it, as the code does it; and block after block, as the program reads standard input.
-use Rattle.std.specs.Prelude.{ℕ, Bool, true, false, not, List, [], ◌∷◌, ◌++◌, ◌≡◌, length, get_or, take, drop}
+use Rattle.std.specs.Prelude.{ℕ, Bool, true, false, not, List, [], ◌∷◌, ◌++◌, ◌≡◌, get_or, take, drop}
 use Rattle.text.specs.Parts.{pick, split_on}
 use Rattle.text.specs.Put.{Put}
 use Rattle.model.specs.Tests.{◌or◌, accepted}
@@ -10,7 +10,7 @@ use Rattle.model.specs.declared.State.{State}
 use Rattle.model.specs.declared.Step.{Step}
 use Rattle.model.specs.declared.Line.{Line}
 use Rattle.model.specs.declared.Line.TheVariants as line
-use Rattle.log.specs.Lines.{set_digits, read_step}
+use Rattle.logs.specs.Lines.{set_digits, read_step}
 use Rattle.table.specs.Tables.{table_of}
 use Rattle.table.specs.Texts.{read_table}
 use Rattle.saved.specs.Rows.{begins_row}

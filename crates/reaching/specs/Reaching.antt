@@ -1,6 +1,6 @@
 -- The state that a log reaches, as its row: "gives the row of the state after a log's last line", which a recorder puts first into the next
 -- file of a drive.
-use Rattle.std.specs.Prelude.{ℕ, zero, suc, ◌+◌, Bool, List, [], ◌∷◌, ◌++◌, ◌≡◌, length, get_or, ltb, leb}
+use Rattle.std.specs.Prelude.{ℕ, zero, suc, ◌+◌, List, [], ◌∷◌, ◌++◌, ◌≡◌, length, get_or, ltb, leb}
 use Rattle.std.proofs.lemmas.List.Edits.{sets}
 use Rattle.text.specs.Parts.{pick, split_on}
 use Rattle.text.specs.Number.{digits}

@@ -1,5 +1,7 @@
 // The row of the state that a log reaches: what the recorder puts first into the next file of a drive. The exported function, and what the
 // program `reached` does of each block that it reads.
+#![tactic(auto)]
+
 ghost use Rattle.std.specs.Prelude.{◌≡◌, [], ◌∷◌, ◌+◌, ◌≤◌, length, T};
 ghost use Rattle.text.specs.Parts.{split_on};
 ghost use Rattle.text.specs.Put.{Put};
@@ -21,14 +23,14 @@ use table::{Answer, Table};
 const SCRATCH: usize = 4096;
 
 // Where a log ended: what goes on behind its last accepted line, and the refusal, 0 for none.
-#[derive(Drop)]
+#[derive(Clone, Copy)]
 pub struct Ended {
     pub going: Going,
     pub refusal: u64,
 }
 
 // A block that was gone through: where the log stands, the refusal, how many bytes are held for the next block, and whether it is over.
-#[derive(Drop)]
+#[derive(Clone, Copy)]
 pub struct Turn {
     pub going: Going,
     pub refusal: u64,
@@ -74,7 +76,7 @@ fn put_reached(rows: &[u32], index: &[u32], s: State, out: &mut [u8], pair: &mut
     requires { Prepared rows.now index.now × T (sound (table_in rows.now index.now) s) }
     ensures { Reaches (row (row_text (table_in rows.now index.now) s)) out.old pair.old result out.new pair.new }
 {
-    let mut text = [0u8; log::LONGEST_ROW];
+    let mut text = [0u8; logs::LONGEST_ROW];
     let n = saved::put_state(rows, index, s, &mut text);
     let e = text::put_bytes(out, 0, &text[..n]);
     if e == 0 {
@@ -105,8 +107,7 @@ fn reach_log(t: Table, log: &[u8], out: &mut [u8], pair: &mut [u64]) -> usize
 // The recorder's call: the row of the state behind a log's last line, with its newline. Answers its length; or 0 with the buffer unchanged where
 // the table or the log is refused or the row does not fit. The pair then has the refusal's number and line, 31 and 0 for a row that does not
 // fit, and else 0 and 0; a pair of less than two is left alone.
-#[unsafe(no_mangle)]
-pub extern "C" fn reached(table: &[u8], log: &[u8], out: &mut [u8], pair: &mut [u64]) -> usize
+pub fn reached(table: &[u8], log: &[u8], out: &mut [u8], pair: &mut [u64]) -> usize
     ensures { Reaches (reach_on table.now log.now) out.old pair.old result out.new pair.new }
 {
     let read = table::read_table(table);
@@ -162,7 +163,7 @@ pub fn put_end(rows: &[u32], index: &[u32], out: &mut [u8], g: Going, refusal: u
     requires { Prepared rows.now index.now × T (sound (table_in rows.now index.now) g.state) × (lines_of g.tally ≤ most_count) }
     ensures { Put out.old 0 (reach_text (reach_at (table_in rows.now index.now) g.state refusal (lines_of g.tally))) result out.new }
 {
-    let mut text = [0u8; log::LONGEST_ROW];
+    let mut text = [0u8; logs::LONGEST_ROW];
     if refusal == 0 {
         let n = saved::put_state(rows, index, g.state, &mut text);
         return text::put_bytes(out, 0, &text[..n]);

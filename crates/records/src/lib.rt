@@ -1,4 +1,6 @@
 // The records of the state: what can be asked of one and done on one without a table. They go in by value and come back.
+#![tactic(auto)]
+
 ghost use Rattle.std.specs.Prelude.{◌≡◌, not, max, ◌≤◌, leb};
 ghost use Rattle.model.specs.Tests.{◌and◌, ◌or◌, ◌implies◌};
 ghost use Rattle.model.specs.Limits.{most_ticks, ceiling};

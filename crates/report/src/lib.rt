@@ -1,4 +1,6 @@
 // The report's rows: the bytes of each, and their writers.
+#![tactic(auto)]
+
 ghost use Rattle.std.specs.Prelude.{◌≡◌, ◌+◌, ◌≤◌, length};
 ghost use Rattle.text.specs.Put.{Put};
 ghost use Rattle.report.specs.Rows.{numbers_text, line_text, head_text, cycle_numbers, cycle_text};
@@ -7,7 +9,7 @@ ghost use Rattle.report.specs.Rows.{numbers_text, line_text, head_text, cycle_nu
 const LAYOUT: u64 = 1;
 
 // A cycle that was closed and kept.
-#[derive(Drop)]
+#[derive(Clone, Copy)]
 pub struct Cycle {
     pub task: usize,
     pub cycle: u64,

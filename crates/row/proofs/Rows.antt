@@ -120,7 +120,8 @@ text_free : (c form v : ℕ) (ps : List (List ℕ)) → c < 48 → all_free c (f
 text_free c form v ps h = cases (eqb form no_field) (λ e. rw e) (λ e. rw (e, value_free c form v h))
 
 parts_free : (c : ℕ) (r : Row) → c < 48 → all_free c (row_parts r) ≡ true
-parts_free c r h = ap (all_free c) (parts_are r) ∙ rw (kind_free, text_free, text_free, text_free)
+parts_free c r h = ap (all_free c) (parts_are r) ∙ rw (kind_free c r.kind h)
+    (text_free c (form_of r.kind 0) r.a _ h ∙ (text_free c (form_of r.kind 1) r.b _ h ∙ text_free c (form_of r.kind 2) r.c [] h))
 
 join_free : (c : ℕ) (ps : List (List ℕ)) → eqb 9 c ≡ false → all_free c ps ≡ true → free c (join_on 9 ps) ≡ true
 join_free c [] n h = refl

@@ -1,4 +1,6 @@
 // One row of a table's text: its word, its fields, read and written.
+#![tactic(auto)]
+
 ghost use Rattle.std.specs.Prelude.{◌≡◌, ◌+◌, ◌≤◌, length};
 ghost use Rattle.std.proofs.lemmas.List.Edits.{sets};
 ghost use Rattle.text.specs.Put.{Put};
@@ -30,7 +32,7 @@ const A_TARGET: usize = 4;
 
 // A row of the page's table: its word, filled up to five with spaces, and its letters; how many fields; the most rows; what each field says,
 // filled up with 0.
-#[derive(Drop)]
+#[derive(Clone, Copy)]
 struct Kind([u8; 5], usize, usize, usize, [usize; FIELDS]);
 
 // The page's table of rows; a row's kind is its place.
@@ -44,7 +46,7 @@ const KINDS: [Kind; STORED + 1] = [
 ];
 
 // A row: its kind, and its fields' values, 0 where it has no such field. A word's value is its place among its words.
-#[derive(Drop)]
+#[derive(Clone, Copy)]
 pub struct Row {
     pub kind: usize,
     pub a: u64,
@@ -53,7 +55,7 @@ pub struct Row {
 }
 
 // What a line says: a row, or bad form.
-#[derive(Drop)]
+#[derive(Clone, Copy)]
 pub enum Line {
     Is(Row),
     Bad,

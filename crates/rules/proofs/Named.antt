@@ -1,10 +1,7 @@
 -- The rows that a step or a place names, and what is told of a step by its kind.
 use mathlib.Core.Bool.{Bool, true, false}
-use mathlib.Core.List.{[], ◌∷◌}
 use mathlib.Core.Path.{◌≡◌, refl, sym, ap, ◌∙◌}
 use native.Mathlib.Omega.{arith}
-use types.Run.{OneOf, miss}
-use denote.Enum.Declared.{tag_of}
 use Prim.Native.Nat.{ℕ, ◌≤◌, ◌<◌}
 use lib.Dec.{T, ltb, ltb→lt}
 use borrow.Author.Tests.{lt-ltb, le-ltb}
@@ -18,7 +15,6 @@ use Rattle.model.specs.declared.Place.TheVariants.{Ether, Codel}
 use Rattle.model.specs.declared.TaskStep.{TaskStep}
 use Rattle.model.specs.declared.ActStep.{ActStep}
 use Rattle.model.specs.declared.ActStep.TheVariants.{Lm, Ia, Ea, Cx, Fa}
-use Rattle.model.specs.contracts.ActStep.{the_type}
 use Rattle.model.proofs.Tests.{and_l, and_r, need_of}
 use Rattle.model.proofs.Asked.{known_codel}
 use Rattle.model.proofs.StepsKeep.{first_at_lem}
@@ -95,8 +91,8 @@ module _ (K : Table) (a : ℕ) (p q : Place) (e : p ≡ q) where
   ea_named n f = rw e f
 
 -- every step but `lm` is of its activity's task
-pub but_lm : (K : Table) (a : ℕ) (k : ActStep) (t : ℕ) → OneOf (1 ∷ 2 ∷ 3 ∷ 4 ∷ []) (tag_of the_type k) → t ≡ K.task a → t ≡ task_in K a k
-but_lm K a (Lm u) t h e = absurd (miss (1 ∷ 2 ∷ 3 ∷ 4 ∷ []) 0 tt h)
+pub but_lm : (K : Table) (a : ℕ) (k : ActStep) (t : ℕ) → ((u : ℕ) → k ≡ Lm u → ⊥) → t ≡ K.task a → t ≡ task_in K a k
+but_lm K a (Lm u) t h e = absurd (h u refl)
 but_lm K a Ia t h e = e
 but_lm K a (Ea p) t h e = e
 but_lm K a Cx t h e = e

@@ -1,4 +1,6 @@
 // The steps on the records that they touch: a task's, or a task's and an activity's, go in by value and come back.
+#![tactic(auto)]
+
 ghost use Rattle.std.specs.Prelude.{◌≡◌, ◌<◌, ◌≤◌, T, ltb};
 ghost use Rattle.model.specs.Tests.{◌and◌, need};
 ghost use Rattle.model.specs.Limits.{ceiling};
@@ -12,14 +14,14 @@ ghost use Rattle.rules.specs.Local.{told_task, told, st_local, fm_local, task_to
 use model::{Act, ActStep, Holder, Place, Task, TaskStep};
 
 // What a step of a task comes to: its refusal, 0 for none, and the task's record as it then is.
-#[derive(Drop)]
+#[derive(Clone, Copy)]
 pub struct TaskTold {
     pub number: u64,
     pub task: Task,
 }
 
 // What a step of an activity comes to: its refusal, 0 for none, and its task's record and its own as they then are.
-#[derive(Drop)]
+#[derive(Clone, Copy)]
 pub struct Told {
     pub number: u64,
     pub task: Task,

@@ -1,6 +1,6 @@
 -- The values of a row come back from the state that they say; and no state has a set outside its task.
 use Prim.Native.Nat.{ℕ, zero, suc, ◌+◌, ◌*◌, ◌^◌, ◌≤◌, ◌<◌}
-use mathlib.Core.Path.{◌≡◌, refl, sym, ap, subst⁻¹, ◌∙◌}
+use mathlib.Core.Path.{◌≡◌, refl, sym, ◌∙◌}
 use mathlib.Core.List.{List, [], ◌∷◌, ◌++◌, append-nil, append_assoc}
 use mathlib.Core.Bool.{Bool, true}
 use native.Mathlib.Omega.{arith}
@@ -11,7 +11,7 @@ use lib.Seq.{drop-cons, get_or-append-add}
 use borrow.Author.Tests.{ltb-true, eqb-true, eqb-false}
 use Rattle.text.specs.Set.{set_room, bit, member}
 use Rattle.text.specs.declared.Set.{Set}
-use Rattle.text.proofs.Picks.{cases, order, picked, false_true}
+use Rattle.text.proofs.Picks.{cases, picked, false_true}
 use Rattle.text.proofs.Bits.{high_clear}
 use Rattle.text.proofs.Members.{member_low, each_of_at, each_of_mk}
 use Rattle.model.specs.Tests.{◌and◌, sum}

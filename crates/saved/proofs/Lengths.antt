@@ -17,7 +17,7 @@ use Rattle.model.specs.Sound.{sound}
 use Rattle.model.specs.declared.State.{State}
 use Rattle.model.proofs.Tests.{true_T}
 use Rattle.model.proofs.Formed.{formed}
-use Rattle.log.specs.Lines.{longest_row}
+use Rattle.logs.specs.Lines.{longest_row}
 use Rattle.fields.specs.Forms.{a_number, a_set, form_text}
 use Rattle.fields.specs.Fields.{repeated, fields_text, values_ok}
 use Rattle.fields.proofs.Forms.{form_long, set_long}

@@ -16,7 +16,7 @@ use Rattle.text.proofs.Words.{same_self, same_list_lem}
 use Rattle.model.specs.Limits.{most_tasks, most_acts}
 use Rattle.model.specs.Tables.{Table}
 use Rattle.model.specs.declared.State.{State}
-use Rattle.log.specs.Lines.{longest_row}
+use Rattle.logs.specs.Lines.{longest_row}
 use Rattle.prepared.specs.Prepared.{table_in, Prepared}
 use Rattle.prepared.proofs.Stored.{most_tasks_lem, most_acts_lem}
 use Rattle.fields.specs.Forms.{a_number}

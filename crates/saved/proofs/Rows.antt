@@ -1,5 +1,5 @@
 -- Rows and states: a state written is read back, and a row that reads is the one written for its state; no row is a step.
-use Prim.Native.Nat.{ℕ, zero, suc, ◌+◌, ◌≤◌, ◌<◌}
+use Prim.Native.Nat.{ℕ, zero, suc, ◌+◌, ◌≤◌}
 use mathlib.Core.Bool.{true, false}
 use mathlib.Core.List.{List, [], ◌∷◌, ◌++◌, append-nil}
 use mathlib.Core.Path.{◌≡◌, refl, sym, ap, ◌∙◌}
@@ -25,8 +25,8 @@ use Rattle.model.specs.declared.State.{State}
 use Rattle.model.specs.declared.Line.TheVariants as line
 use Rattle.model.proofs.Tests.{true_T}
 use Rattle.model.proofs.Formed.{formed}
-use Rattle.log.specs.Lines.{longest_line, longest_row, step_words, on_word, step_in, read_step}
-use Rattle.log.proofs.Words.{nine_words}
+use Rattle.logs.specs.Lines.{longest_line, longest_row, step_words, on_word, step_in, read_step}
+use Rattle.logs.proofs.Words.{nine_words}
 use Rattle.fields.specs.Fields.{Part, part, none, read_fields, field_parts, fields_text, values_ok}
 use Rattle.fields.proofs.Parts.{fields_reads, fields_read, fields_split, fields_join, fields_free}
 use Rattle.saved.specs.Rows.{state_word, begins_row, row_forms, row_values, row_line, tasks_said, acts_said, state_from, sets_within, on_part, part_in, read_state}

@@ -1,23 +1,22 @@
 -- The state that values say: of a sound state's values it is that state, and zeros behind the values do not change it.
 use Prim.Native.Nat.{ℕ, zero, suc, ◌+◌, ◌-◌, ◌≤◌, ◌<◌}
-use mathlib.Core.Path.{◌≡◌, refl, sym, ap, subst⁻¹, ◌∙◌}
+use mathlib.Core.Path.{◌≡◌, refl, sym, ap, ◌∙◌}
 use mathlib.Core.Logic.{⊎_elim}
 use mathlib.Core.Bool.{Bool, true, false, not}
 use mathlib.Core.List.{List, ◌++◌}
 use native.Mathlib.Omega.{arith}
 use lib.ListN.{length, get_or, set, replicate, drop, length-set, length-replicate, get_or-replicate, get_or-append, get_or-eq_default}
 use lib.Seq.{sets, sets-eq, ext_get_or, get_or-append-add, get_or-drop, get_or-set_same, get_or-set_other}
-use lib.Dec.{T, ltb, eqb, eqb→eq}
+use lib.Dec.{T, eqb, eqb→eq}
 use borrow.Author.Tests.{lt-ltb, eq-eqb, ne_eqb, not-true}
-use Rattle.text.specs.Set.{set_room, member, each_of}
+use Rattle.text.specs.Set.{member}
 use Rattle.text.specs.declared.Set.{Set}
-use Rattle.text.proofs.Picks.{cases, order}
+use Rattle.text.proofs.Picks.{order}
 use Rattle.model.specs.Tests.{◌and◌, one, sum}
 use Rattle.model.specs.Limits.{most_tasks, most_acts}
 use Rattle.model.specs.Tables.{Table, is_ether}
 use Rattle.model.specs.Rows.{wellformed}
 use Rattle.model.specs.States.{no_task, no_act, fresh, task_at, act_at, by_manager}
-use Rattle.model.specs.Rules.{within}
 use Rattle.model.specs.Records.{with_timer, with_signal, with_managing, with_holder, with_place, in_lists}
 use Rattle.model.specs.Sound.{is_fresh_task, is_fresh_act, sound}
 use Rattle.model.specs.declared.Task.{Task}
@@ -27,7 +26,7 @@ use Rattle.model.specs.declared.Place.{Place}
 use Rattle.model.specs.declared.Place.TheVariants.{Ether, Codel}
 use Rattle.model.specs.declared.Holder.{Holder}
 use Rattle.model.specs.declared.Holder.TheVariants.{Manager, Activity}
-use Rattle.model.proofs.Tests.{T_true, true_T, and_i, and_l, and_both, last_or, each_mk}
+use Rattle.model.proofs.Tests.{T_true, true_T, and_both, last_or}
 use Rattle.model.proofs.Formed.{Formed, formed}
 use Rattle.model.proofs.Soundness.{Sound, sound_of, manager_is}
 use Rattle.fields.specs.Forms.{no_number}

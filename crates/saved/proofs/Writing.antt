@@ -20,7 +20,7 @@ use Rattle.model.specs.Sound.{sound}
 use Rattle.model.specs.declared.State.{State}
 use Rattle.model.proofs.Tests.{true_T}
 use Rattle.model.proofs.Formed.{formed}
-use Rattle.log.specs.Lines.{longest_row}
+use Rattle.logs.specs.Lines.{longest_row}
 use Rattle.prepared.specs.Prepared.{table_in, Prepared}
 use Rattle.prepared.proofs.Stored.{most_tasks_lem, most_acts_lem}
 use Rattle.fields.specs.Forms.{a_number, form_ok}

@@ -1,6 +1,6 @@
 -- "A file may now start with a `state` row, one line of at most 4,095 bytes with every field of the state, tasks then activities, in document
 -- 01's order: sets as in `sm`, yes as 1, managing as 1, `manager` or `ether` where no number stands, numbers to 13 digits."
-use Rattle.std.specs.Prelude.{ℕ, zero, suc, ◌+◌, ◌*◌, ◌^◌, Bool, true, false, List, [], ◌∷◌, ◌++◌, length, get_or, set, take, leb, eqb}
+use Rattle.std.specs.Prelude.{ℕ, zero, suc, ◌+◌, ◌*◌, ◌^◌, Bool, List, [], ◌∷◌, ◌++◌, length, get_or, set, take, leb, eqb}
 use Rattle.text.specs.Parts.{pick, split_on}
 use Rattle.text.specs.Set.{member}
 use Rattle.text.specs.Words.{same_list}
@@ -17,7 +17,7 @@ use Rattle.model.specs.declared.Place.{Place}
 use Rattle.model.specs.declared.Place.TheVariants.{Ether, Codel}
 use Rattle.model.specs.declared.Holder.{Holder}
 use Rattle.model.specs.declared.Holder.TheVariants.{Manager, Activity}
-use Rattle.log.specs.Lines.{longest_row}
+use Rattle.logs.specs.Lines.{longest_row}
 use Rattle.fields.specs.Forms.{a_number, a_yes, a_holder, a_set, a_place, no_number}
 use Rattle.fields.specs.Fields.{repeated, Part, part, none, read_fields, fields_text}
 use Rattle.saved.specs.declared.Read.{Read}

@@ -7,7 +7,7 @@ use Rattle.model.specs.declared.State.{State}
 use Rattle.fields.specs.Fields.{repeated, Taken, took, fields_text}
 use Rattle.fields.specs.declared.End.{End}
 use Rattle.fields.specs.declared.End.TheVariants.{At, Bad}
-use Rattle.log.specs.Lines.{longest_row}
+use Rattle.logs.specs.Lines.{longest_row}
 use Rattle.saved.specs.Rows.{begins_row, task_forms, act_forms, row_forms, run_bits, halt_bits, tasks_values, acts_values, tasks_said, acts_said}
 use Rattle.saved.specs.declared.Sets.{Sets}
 

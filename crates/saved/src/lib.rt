@@ -1,12 +1,14 @@
 // The `state` row: every field of a state in one line of a log, read and written. Which fields a task's part and an activity's part have is
 // described once; a table's counts say how many parts there are.
+#![tactic(auto)]
+
 ghost use Rattle.std.specs.Prelude.{◌≡◌, [], ◌∷◌, ◌+◌, ◌<◌, ◌≤◌, length, T};
 ghost use Rattle.std.proofs.lemmas.List.Edits.{sets};
 ghost use Rattle.text.specs.Standing.{past};
 ghost use Rattle.model.specs.Tests.{one};
 ghost use Rattle.model.specs.Limits.{most_tasks, most_acts};
 ghost use Rattle.model.specs.Sound.{sound};
-ghost use Rattle.log.specs.Lines.{longest_row};
+ghost use Rattle.logs.specs.Lines.{longest_row};
 ghost use Rattle.prepared.specs.Prepared.{table_in, Prepared};
 ghost use Rattle.fields.specs.Forms.{a_holder, a_set, a_place, form_text};
 ghost use Rattle.fields.specs.Fields.{fields_text};
@@ -52,14 +54,14 @@ const HALT_FIELD: usize = 5;
 const MOST_VALUES: usize = 1 + model::MOST_TASKS * TASK_FIELDS + model::MOST_ACTS * ACT_FIELDS;
 
 // What a row says: 0 and its state, or 11 for one that does not read and 20 for one that no state can be, both with the fresh state.
-#[derive(Drop)]
+#[derive(Clone, Copy)]
 pub struct Read {
     pub number: u64,
     pub state: State,
 }
 
 // N and R of each task as numbers, bit a for activity a.
-#[derive(Drop)]
+#[derive(Clone, Copy)]
 struct Sets {
     run: [u64; model::MOST_TASKS],
     halt: [u64; model::MOST_TASKS],
@@ -80,7 +82,7 @@ fn read_values(rows: &[u32], index: &[u32], line: &[u8], values: &mut [u64]) -> 
     requires { Prepared rows.now index.now × (length values.old ≡ most_values) }
     ensures { Whole (table_in rows.now index.now) line.now values.old result values.new }
 {
-    if log::LONGEST_ROW <= line.len() {
+    if logs::LONGEST_ROW <= line.len() {
         return false;
     }
     if !begins_row(line) {
@@ -401,7 +403,7 @@ pub fn put_state(rows: &[u32], index: &[u32], s: State, buf: &mut [u8]) -> usize
 }
 
 // N and R of one task as numbers.
-#[derive(Drop)]
+#[derive(Clone, Copy)]
 struct Lists {
     run: u64,
     halt: u64,
@@ -550,7 +552,7 @@ fn list_at(rows: &[u32], index: &[u32], log: &[u8], at: usize, t: usize) -> Stoo
 }
 
 // A task's part that was read in place: its record, its N and R, and the place behind it, or the end where it does not read.
-#[derive(Drop)]
+#[derive(Clone, Copy)]
 pub struct TaskRead {
     pub task: Task,
     pub run: u64,
@@ -559,7 +561,7 @@ pub struct TaskRead {
 }
 
 // An activity's part that was read in place.
-#[derive(Drop)]
+#[derive(Clone, Copy)]
 pub struct ActRead {
     pub act: Act,
     pub end: usize,

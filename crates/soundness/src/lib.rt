@@ -1,4 +1,6 @@
 // The test for a sound state, sentence by sentence as document 01 has it, in one pass over the rows of the table and the state.
+#![tactic(auto)]
+
 ghost use Rattle.std.specs.Prelude.{◌≡◌, ◌<◌, T, leb};
 ghost use Rattle.model.specs.Tests.{◌and◌, ◌implies◌, one, each};
 ghost use Rattle.model.specs.Limits.{most_tasks, most_acts};

@@ -1,13 +1,11 @@
 -- One step on a line given by value: what a run over that one line comes to, and each answer by the tests that lead to it.
 use mathlib.Core.Bool.{Bool, true, false, not}
-use mathlib.Core.List.{List, [], ◌∷◌}
+use mathlib.Core.List.{List}
 use mathlib.Core.Path.{◌≡◌, refl, sym, ap, ◌∙◌}
 use Prim.Native.Nat.{ℕ, ◌+◌, ◌-◌}
 use native.Mathlib.Omega.{arith}
 use lib.Dec.{eqb, leb}
 use lib.ListN.{length}
-use types.Run.{OneOf, miss}
-use denote.Enum.Declared.{tag_of}
 use borrow.Author.Tests.{eqb-true, ne_eqb, not-true, not-false}
 use Rattle.text.specs.Parts.{first_at}
 use Rattle.text.proofs.Picks.{cases, picked}
@@ -20,14 +18,14 @@ use Rattle.model.specs.declared.State.{State}
 use Rattle.model.specs.declared.Step.{Step}
 use Rattle.model.specs.declared.Line.{Line}
 use Rattle.model.specs.declared.Line.TheVariants.{Is, Bad}
-use Rattle.log.specs.Lines.{set_digits, read_line}
-use Rattle.log.proofs.Bounds.{read_line_bounds}
+use Rattle.logs.specs.Lines.{set_digits, read_line}
+use Rattle.logs.proofs.Bounds.{read_line_bounds}
 use Rattle.table.specs.Checks.{says, check_table}
 use Rattle.table.specs.Tables.{table_of}
 use Rattle.table.specs.declared.Table as rows
 use Rattle.table.specs.declared.Read.{Read}
 use Rattle.table.specs.declared.Answer.TheVariants as answer
-use Rattle.log.proofs.Shapes.{no_step_lem}
+use Rattle.logs.proofs.Shapes.{no_step_lem}
 use Rattle.report.specs.Rows.{cycle_of, cycle_text}
 use Rattle.tally.specs.Tallies.{tallied, no_tally, Roomy}
 use Rattle.engine.specs.Turns.{line_at}
@@ -40,7 +38,6 @@ use Rattle.engine.specs.declared.Stop.TheVariants.{End, Refused, Closed, Row}
 use Rattle.engine.specs.declared.Going.{Going}
 use Rattle.engine.specs.declared.Ran.{Ran}
 use Rattle.stepping.specs.declared.Stepped.{Stepped}
-use Rattle.engine.specs.contracts.Stop.{the_type}
 use Rattle.engine.proofs.Lines.{at_end_lem, at_step}
 use Rattle.engine.proofs.Starting.{roomy}
 
@@ -55,9 +52,9 @@ abbrev answer_of : State → Played → Stepped
 answer_of s p = answer_on p.stop s p.state
 
 -- every stop but a refusal
-goes_on_lem : (w : Stop) → OneOf (0 ∷ 2 ∷ 3 ∷ []) (tag_of the_type w) → (s u : State) → record { number = 0; state = u } ≡ answer_on w s u
+goes_on_lem : (w : Stop) → ((n : ℕ) → w ≡ Refused n → ⊥) → (s u : State) → record { number = 0; state = u } ≡ answer_on w s u
 goes_on_lem End h s u = refl
-goes_on_lem (Refused n) h s u = absurd (miss (0 ∷ 2 ∷ 3 ∷ []) 1 tt h)
+goes_on_lem (Refused n) h s u = absurd (h n refl)
 goes_on_lem (Closed c) h s u = refl
 goes_on_lem Row h s u = refl
 
@@ -110,7 +107,7 @@ module _ (K : Table) (s : State) (l : List ℕ) (y : Line) (e : y ≡ read_line 
     pub line_refused : (n : ℕ) → r.stop ≡ Refused n → record { number = n; state = s } ≡ line_stepped K s (read_line set_digits l)
     line_refused n p = rw p at ran
 
-    pub line_accepted : OneOf (0 ∷ 2 ∷ 3 ∷ []) (tag_of the_type r.stop) → record { number = 0; state = r.going.state } ≡ line_stepped K s (read_line set_digits l)
+    pub line_accepted : ((n : ℕ) → r.stop ≡ Refused n → ⊥) → record { number = 0; state = r.going.state } ≡ line_stepped K s (read_line set_digits l)
     line_accepted p = goes_on_lem r.stop p s r.going.state ∙ ran
 
 -- and on a table and a state that may be refused

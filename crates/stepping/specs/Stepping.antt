@@ -9,7 +9,7 @@ use Rattle.model.specs.Rules.{refusal, next, line_refusal}
 use Rattle.model.specs.declared.State.{State}
 use Rattle.model.specs.declared.Line.{Line}
 use Rattle.model.specs.declared.Line.TheVariants as line
-use Rattle.log.specs.Lines.{set_digits, read_line}
+use Rattle.logs.specs.Lines.{set_digits, read_line}
 use Rattle.table.specs.Checks.{check_table}
 use Rattle.table.specs.Tables.{table_of}
 use Rattle.table.specs.Texts.{is_empty}

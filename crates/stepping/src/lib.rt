@@ -1,7 +1,9 @@
 // One step of a log with everything given by value: the table, the state and the line.
+#![tactic(auto)]
+
 ghost use Rattle.std.specs.Prelude.{◌≡◌, T};
 ghost use Rattle.model.specs.Sound.{sound};
-ghost use Rattle.log.specs.Lines.{set_digits, read_line};
+ghost use Rattle.logs.specs.Lines.{set_digits, read_line};
 ghost use Rattle.prepared.specs.Prepared.{table_in, Prepared};
 ghost use Rattle.stepping.specs.Stepping.{line_stepped, stepped};
 
@@ -10,7 +12,7 @@ use model::{Line, State};
 use table::{Answer, Table};
 
 // A step's refusal, 0 for none, and the state behind it.
-#[derive(Drop)]
+#[derive(Clone, Copy)]
 pub struct Stepped {
     pub number: u64,
     pub state: State,
@@ -21,7 +23,7 @@ fn step_line(rows: &[u32], index: &[u32], s: State, line: &[u8]) -> Stepped
     requires { Prepared rows.now index.now × T (sound (table_in rows.now index.now) s) }
     ensures { result ≡ line_stepped (table_in rows.now index.now) s (read_line set_digits line.now) }
 {
-    let Line::Is(_) = log::read_line(line, log::SET_DIGITS) else {
+    let Line::Is(_) = logs::read_line(line, logs::SET_DIGITS) else {
         return Stepped {
             number: 11,
             state: s,

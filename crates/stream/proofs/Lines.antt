@@ -1,5 +1,5 @@
 -- Where the whole lines of a part of a log end: one law for each turn and each answer; and what may follow them.
-use Prim.Native.Nat.{ℕ, zero, suc, ◌+◌, ◌-◌, ◌≤◌, ◌<◌}
+use Prim.Native.Nat.{ℕ, zero, suc, ◌-◌, ◌≤◌, ◌<◌}
 use mathlib.Core.Path.{◌≡◌, refl, ap, ◌∙◌}
 use mathlib.Core.List.{List, [], ◌∷◌, ◌++◌}
 use mathlib.Core.Bool.{Bool, true, false}
@@ -11,7 +11,7 @@ use lib.Dec.{eqb, ltb}
 use borrow.Author.Tests.{lt-ltb, le-ltb, ltb-true, ltb-false, eqb-true, eqb-false}
 use Rattle.text.specs.Parts.{split_on}
 use Rattle.text.proofs.Picks.{cases}
-use Rattle.log.specs.Lines.{longest_row}
+use Rattle.logs.specs.Lines.{longest_row}
 use Rattle.stream.specs.Chunk.{last_part, lines_end, whole_lines, chunk_end}
 use Rattle.stream.proofs.Pieces.{last_newline, last_other}
 

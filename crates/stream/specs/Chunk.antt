@@ -1,7 +1,7 @@
 -- How much of a log's bytes at hand is taken at a time: whole lines.
 use Rattle.std.specs.Prelude.{ℕ, ◌-◌, Bool, List, [], ◌∷◌, length, ltb}
 use Rattle.text.specs.Parts.{pick, split_on}
-use Rattle.log.specs.Lines.{longest_row}
+use Rattle.logs.specs.Lines.{longest_row}
 
 -- the last of the parts of a text: what stands behind its last newline
 abbrev pub last_part : List (List ℕ) → List ℕ

@@ -1,5 +1,7 @@
 // An input that comes block after block: where its table ends, how much of a log's bytes at hand are whole lines, and the rest kept for the
 // next block. What is judged is no matter here.
+#![tactic(auto)]
+
 ghost use Rattle.std.specs.Prelude.{◌≡◌, ◌≤◌, length};
 ghost use Rattle.std.proofs.Math.Seq.{slice};
 ghost use Rattle.text.specs.Parts.{split_on};
@@ -77,7 +79,7 @@ fn whole_lines(s: &[u8]) -> usize
     ensures { result ≡ whole_lines s.now }
 {
     let end = lines_end(s);
-    if s.len() - end < log::LONGEST_ROW {
+    if s.len() - end < logs::LONGEST_ROW {
         return end;
     }
     s.len()

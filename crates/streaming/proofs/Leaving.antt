@@ -23,7 +23,7 @@ use Rattle.model.specs.declared.Line.TheVariants as line
 use Rattle.model.proofs.Formed.{Formed}
 use Rattle.model.proofs.Soundness.{Sound}
 use Rattle.model.proofs.StepsKeep.{step_keeps}
-use Rattle.log.specs.Lines.{set_digits, read_step}
+use Rattle.logs.specs.Lines.{set_digits, read_step}
 use Rattle.saved.specs.Rows.{begins_row}
 use Rattle.entries.specs.Entries.{row_state, row_number, row_refusal, resumed}
 use Rattle.entries.proofs.Owning.{RowLaws}

@@ -10,7 +10,6 @@ use lib.ListN.{length, take, drop}
 use Rattle.text.specs.Parts.{pick}
 use Rattle.text.proofs.Picks.{false_true}
 use Rattle.model.specs.Tables.{Table}
-use Rattle.model.specs.Rows.{wellformed}
 use Rattle.model.specs.States.{fresh}
 use Rattle.table.specs.Tables.{table_of}
 use Rattle.table.specs.Checks.{Said}
@@ -23,7 +22,7 @@ use Rattle.engine.specs.Starts.{fresh_going}
 use Rattle.engine.specs.declared.Going.{Going}
 use Rattle.stream.specs.Cut.{cut_of, cut_known}
 use Rattle.judging.specs.Report.{input_report}
-use Rattle.streaming.specs.Turns.{at_log, over, Telling, on_log, opening, on_table, on_input, turn, told_by, joined, most_block, Short, most_told}
+use Rattle.streaming.specs.Turns.{at_log, over, Telling, on_log, opening, on_table, on_input, told_by, joined, most_block, Short, most_told}
 use Rattle.streaming.specs.Lent.{Resumes, Judged, Opens}
 use Rattle.streaming.specs.declared.Turn.{Turn}
 use Rattle.streaming.specs.declared.Opened.{Opened}

@@ -15,7 +15,7 @@ use Rattle.model.specs.States.{fresh}
 use Rattle.model.specs.declared.State.{State}
 use Rattle.model.proofs.Formed.{formed}
 use Rattle.model.proofs.Soundness.{Sound, start_sound}
-use Rattle.log.specs.Lines.{longest_row}
+use Rattle.logs.specs.Lines.{longest_row}
 use Rattle.entries.proofs.Owning.{row_laws}
 use Rattle.table.specs.Tables.{table_of}
 use Rattle.table.specs.Texts.{longest, read_table}

@@ -4,14 +4,12 @@ use mathlib.Core.Bool.{Bool}
 use mathlib.Core.List.{List, [], ◌∷◌, ◌++◌}
 use mathlib.Core.Path.{◌≡◌, refl, ap}
 use native.Mathlib.Omega.{arith}
-use lib.Dec.{T}
 use lib.ListN.{length, get_or, take, drop, length-append, length-take, length-drop}
 use lib.Seq.{sets-eq, take_at}
 use Rattle.text.specs.Parts.{pick}
 use Rattle.text.specs.Put.{Put}
 use Rattle.text.proofs.Puts.{put_fits}
 use Rattle.model.specs.Tables.{Table}
-use Rattle.model.specs.Rows.{wellformed}
 use Rattle.model.specs.Cycles.{refused_report}
 use Rattle.model.proofs.Tests.{true_T}
 use Rattle.table.specs.Texts.{read_table}

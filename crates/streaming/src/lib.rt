@@ -1,4 +1,6 @@
 // The report told block after block: what the program writes of each block that it reads. Its bytes are decided here.
+#![tactic(auto)]
+
 ghost use Rattle.std.specs.Prelude.{◌≤◌, length, take, ◌≡◌};
 ghost use Rattle.text.specs.Put.{Put};
 ghost use Rattle.table.specs.Checks.{numbers_of};
@@ -12,7 +14,7 @@ use engine::{Going, Stop};
 use table::{Answer, Table};
 
 // A table that was read: its rows, whether it is accepted, how many bytes are told, and how many of the log's are held.
-#[derive(Drop)]
+#[derive(Clone, Copy)]
 pub struct Opened {
     pub table: Table,
     pub fine: bool,
@@ -21,7 +23,7 @@ pub struct Opened {
 }
 
 // A block that was judged: where the judging stands, how many bytes are told, how many are held for the next block, and whether it is over.
-#[derive(Drop)]
+#[derive(Clone, Copy)]
 pub struct Turn {
     pub going: Going,
     pub told: usize,

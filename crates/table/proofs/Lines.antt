@@ -1,6 +1,6 @@
 -- The lines of a text and the rows that they say: lines that are read are the text of accepted rows, and that text is so read.
 use Prim.Native.Nat.{ℕ, suc, ◌+◌, ◌-◌, ◌≤◌, ◌<◌}
-use mathlib.Core.Path.{◌≡◌, refl, ap, ◌∙◌}
+use mathlib.Core.Path.{◌≡◌, refl, sym, ap, subst, ◌∙◌}
 use mathlib.Core.List.{List, [], ◌∷◌, ◌++◌, append_assoc}
 use mathlib.Core.Bool.{true}
 use native.Mathlib.Omega.{arith}
@@ -83,11 +83,12 @@ end_is r n k a h =
 back_more : {t u : Table} {r : Row} {l : ℕ} {p q : List ℕ} {ps : List (List ℕ)} → 1 ≤ l → row_line r ≡ p → Follows t r
     → Back (add_row t r) (l + 1) (q ∷ ps) u → Back t l (p ∷ q ∷ ps) u
 unfolding text_of
-back_more {r} {l} {p} h w f b =
-    let n : l + 1 - 1 + length b.got ≡ l - 1 + suc (length b.got) = omega arith in
+back_more {r = r} {l = l} {p = p} {q = q} {ps = ps} h w f b =
+    let m : l + 1 - 1 + length b.got ≡ l - 1 + suc (length b.got) = omega arith in
+    let n : l + 1 - 1 + length b.got ≡ l - 1 + length (r ∷ b.got) = m in
     record {
       got = r ∷ b.got;
-      text = rw (← n, w, append_assoc) (ap (λ (x : List ℕ). p ++ 10 ∷ x) b.text);
+      text = subst (λ (k : ℕ). join_on 10 (p ∷ q ∷ ps) ≡ text_of k (r ∷ b.got)) n (rw (w, append_assoc) (ap (λ (x : List ℕ). p ++ 10 ∷ x) b.text));
       whole = record { built = more f b.whole.built; last = b.whole.last };
     }
 
@@ -141,17 +142,18 @@ rows_read l (done {t = t}) e h b =
       eq-eqb (l - 1) (l - 1) refl,
       e,
     )
-rows_read l (more {t = t} {r = r} {rs = rs} f b) e h c =
-    let n : l - 1 + suc (length rs) ≡ l + 1 - 1 + length rs = omega arith in
+rows_read {u = u} l (more {t = t} {r = r} {rs = rs} f b) e h c =
+    let m : l - 1 + suc (length rs) ≡ l + 1 - 1 + length rs = omega arith in
+    let n : l - 1 + length (r ∷ rs) ≡ l + 1 - 1 + length rs = m in
     let ok : row_ok r ≡ true = ok_limited r f.worded.kind (accepted f).limited in
     let text = text_of (l + 1 - 1 + length rs) rs in
     let no : r.kind ≡ end_kind → ⊥ = λ z. omega (arith, f.worded.kind) in
-    rw (
-      n,
+    subst (λ (k : ℕ). read_lines t l (split_on 10 (text_of k (r ∷ rs))) ≡ accepts u) (sym n)
+    (rw (
       row_split r text,
       one_line t l (row_line r) text,
       row_reads r ok,
       ne_eqb r.kind end_kind no,
       f.fine,
     )
-    (rows_read (l + 1) b e (omega arith) (omega arith))
+    (rows_read (l + 1) b e (omega arith) (omega arith)))

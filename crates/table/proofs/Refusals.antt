@@ -25,7 +25,6 @@ use Rattle.table.specs.Marks.{kind_mark, marked, Building}
 use Rattle.table.specs.declared.Verdict.TheVariants.{Fine, Refused}
 use Rattle.table.proofs.Fields.{at_kind}
 use Rattle.table.proofs.Marks.{alone_by_marks}
-use Rattle.table.specs.declared.Table.{Table}
 use Rattle.table.proofs.Shown.{field_most}
 use Rattle.table.proofs.Order.{after_same}
 

@@ -1,4 +1,6 @@
 // The table: read from its text, checked, and written as its text.
+#![tactic(auto)]
+
 ghost use Rattle.std.specs.Prelude.{◌≡◌, ◌+◌, ◌<◌, ◌≤◌, min, length, get_or, set, eqb, leb, ltb};
 ghost use Rattle.std.proofs.lemmas.List.Edits.{sets};
 ghost use Rattle.text.specs.Parts.{parts_from};
@@ -41,35 +43,35 @@ pub const ETHER_SLOT: u32 = 4294967295;
 
 // A table by value: how many rows of each kind (tasks, activities, codels, edges, mutexes), and the rows, a number for each field. In a table
 // that was read the unused numbers are 0.
-#[derive(Drop)]
+#[derive(Clone, Copy)]
 pub struct Table {
     pub counts: [usize; row::STORED],
     pub rows: [u32; SLOTS],
 }
 
 // Whether a table is accepted, or the number and line of its refusal.
-#[derive(Drop)]
+#[derive(Clone, Copy)]
 pub enum Answer {
     Fine,
     Refused(u64, usize),
 }
 
 // A table with its answer; the table is empty where it is refused.
-#[derive(Drop)]
+#[derive(Clone, Copy)]
 pub struct Read {
     pub answer: Answer,
     pub table: Table,
 }
 
 // How long the text written is, or the number and line of the refusal.
-#[derive(Drop)]
+#[derive(Clone, Copy)]
 pub enum Wrote {
     Length(usize),
     Refused(u64, usize),
 }
 
 // What the check of one row says: fine, or its refusal.
-#[derive(Drop)]
+#[derive(Clone, Copy)]
 enum Verdict {
     Fine,
     Refused(u64),

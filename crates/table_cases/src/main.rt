@@ -3,50 +3,59 @@
 //   open NOTE        the same, without the text's last newline
 // with a tab between the word and the note. A refused text gives the number and line of its refusal; an accepted one is written again, into
 // a buffer of just its length and into one that is a byte shorter. After the cases the writer is given tables that no text says.
-use libc::STDOUT_FILENO;
+#![tactic(auto)]
+
+ghost use Rattle.std.specs.Prelude.{◌≤◌, length, IfOk};
+
+use std::io;
+use std::io::{Read, Write};
 use table::{Answer, Table, Wrote};
 use text::{Field, Word};
 
 // How much room there is for a text written again.
 const TEXT: usize = table::LONGEST;
 
+// How much of standard input is read at most.
+const LONGEST: usize = 65536;
+
 // Writes the first n bytes.
-fn write(out: &[u8], n: usize) {
+fn write<W: Write>(to: &mut W, out: &[u8], n: usize) -> io::Result<()> {
     if n <= out.len() {
-        io::write_all(STDOUT_FILENO, &out[..n]);
+        to.write_all(&out[..n])?;
     }
+    Ok(())
 }
 
-fn say(words: &[u8]) {
-    io::write_all(STDOUT_FILENO, words);
+fn say<W: Write>(to: &mut W, words: &[u8]) -> io::Result<()> {
+    to.write_all(words)
 }
 
-fn say_number(n: u64) {
+fn say_number<W: Write>(to: &mut W, n: u64) -> io::Result<()> {
     let mut out = [0u8; 20];
     let e = text::put_number(&mut out, 0, n);
-    write(&out, e);
+    write(to, &out, e)
 }
 
-fn say_refusal(n: u64, line: usize) {
-    say_number(n);
-    say(b" at line ");
-    say_number(line as u64);
+fn say_refusal<W: Write>(to: &mut W, n: u64, line: usize) -> io::Result<()> {
+    say_number(to, n)?;
+    say(to, b" at line ")?;
+    say_number(to, line as u64)
 }
 
-fn say_answer(a: Answer) {
+fn say_answer<W: Write>(to: &mut W, a: Answer) -> io::Result<()> {
     match a {
-        Answer::Fine => say(b"fine"),
-        Answer::Refused(n, line) => say_refusal(n, line),
+        Answer::Fine => say(to, b"fine"),
+        Answer::Refused(n, line) => say_refusal(to, n, line),
     }
 }
 
-fn say_written(w: Wrote) {
+fn say_written<W: Write>(to: &mut W, w: Wrote) -> io::Result<()> {
     match w {
         Wrote::Length(n) => {
-            say_number(n as u64);
-            say(b" bytes");
+            say_number(to, n as u64)?;
+            say(to, b" bytes")
         }
-        Wrote::Refused(n, line) => say_refusal(n, line),
+        Wrote::Refused(n, line) => say_refusal(to, n, line),
     }
 }
 
@@ -62,41 +71,45 @@ fn same_start(a: &[u8], b: &[u8], n: usize) -> bool {
 }
 
 // Writes a table into the first n bytes of a buffer, and says what came of it and whether those bytes are the text's.
-fn write_into(s: &[u8], out: &mut [u8], t: Table, n: usize) {
+fn write_into<W: Write>(
+    to: &mut W,
+    s: &[u8],
+    out: &mut [u8],
+    t: Table,
+    n: usize,
+) -> io::Result<()> {
     if out.len() < n {
-        return;
+        return Ok(());
     }
     let w = table::write_table(&mut out[..n], t);
-    say_written(w);
+    say_written(to, w)?;
     if same_start(s, out, n) {
-        say(b", the text");
-        return;
+        return say(to, b", the text");
     }
-    say(b", not the text");
+    say(to, b", not the text")
 }
 
-fn write_again(s: &[u8], t: Table, n: usize) {
+fn write_again<W: Write>(to: &mut W, s: &[u8], t: Table, n: usize) -> io::Result<()> {
     let mut out = [0u8; TEXT];
-    write_into(s, &mut out, t, n);
+    write_into(to, s, &mut out, t, n)
 }
 
-fn show_text(s: &[u8]) {
+fn show_text<W: Write>(to: &mut W, s: &[u8]) -> io::Result<()> {
     let r = table::read_table(s);
     let a = r.answer;
     let t = r.table;
-    say_answer(a);
+    say_answer(to, a)?;
     let Answer::Fine = a else {
-        say(b"\n");
-        return;
+        return say(to, b"\n");
     };
     let n = s.len();
-    say(b"; written: ");
-    write_again(s, t, n);
+    say(to, b"; written: ")?;
+    write_again(to, s, t, n)?;
     if 0 < n {
-        say(b"; a byte less: ");
-        write_again(s, t, n - 1);
+        say(to, b"; a byte less: ")?;
+        write_again(to, s, t, n - 1)?;
     }
-    say(b"\n");
+    say(to, b"\n")
 }
 
 // Does a case start here?
@@ -143,46 +156,46 @@ fn is_open(head: &[u8]) -> bool {
 }
 
 // A text without its last byte.
-fn show_cut(s: &[u8]) {
+fn show_cut<W: Write>(to: &mut W, s: &[u8]) -> io::Result<()> {
     if s.len() == 0 {
-        return;
+        return Ok(());
     }
     let n = s.len() - 1;
-    show_text(&s[..n]);
+    show_text(to, &s[..n])
 }
 
 // The case whose first line is given, with its text.
-fn show_case(head: &[u8], s: &[u8]) {
+fn show_case<W: Write>(to: &mut W, head: &[u8], s: &[u8]) -> io::Result<()> {
     let Field::At(a, e) = text::nth_field(head, 1) else {
-        return;
+        return Ok(());
     };
-    say(&head[a..e]);
-    say(b"\t");
+    say(to, &head[a..e])?;
+    say(to, b"\t")?;
     if is_open(head) {
-        show_cut(s);
-        return;
+        return show_cut(to, s);
     }
-    show_text(s);
+    show_text(to, s)
 }
 
-fn show_cases(s: &[u8]) {
+fn show_cases<W: Write>(to: &mut W, s: &[u8]) -> io::Result<()> {
     let mut at = next_case(s, 0);
     while at < s.len() {
         let e = text::next_byte(s, at, text::NEWLINE);
         if s.len() <= e {
-            return;
+            return Ok(());
         }
         let b = next_case(s, e + 1);
         if b <= e {
-            return;
+            return Ok(());
         }
         if s.len() < b {
-            return;
+            return Ok(());
         }
         let c = e + 1;
-        show_case(&s[at..e], &s[c..b]);
+        show_case(to, &s[at..e], &s[c..b])?;
         at = b;
     }
+    Ok(())
 }
 
 // Where the rows of activities, codels and edges begin.
@@ -193,58 +206,76 @@ const CODEL_ROWS: usize = row::FIELDS * table::CODEL_BASE;
 const EDGE_ROWS: usize = row::FIELDS * table::EDGE_BASE;
 
 // The table with one of its numbers changed, given to the writer.
-fn show_row(note: &[u8], t: Table, slot: usize, v: u32) {
+fn show_row<W: Write>(to: &mut W, note: &[u8], t: Table, slot: usize, v: u32) -> io::Result<()> {
     let mut u = t;
     if slot < table::SLOTS {
         u.rows[slot] = v;
     }
-    say(note);
-    say(b"\t");
+    say(to, note)?;
+    say(to, b"\t")?;
     let mut out = [0u8; TEXT];
-    say_written(table::write_table(&mut out, u));
-    say(b"\n");
+    say_written(to, table::write_table(&mut out, u))?;
+    say(to, b"\n")
 }
 
 // The table with another number of rows of a kind, given to the writer.
-fn show_count(note: &[u8], t: Table, kind: usize, n: usize) {
+fn show_count<W: Write>(
+    to: &mut W,
+    note: &[u8],
+    t: Table,
+    kind: usize,
+    n: usize,
+) -> io::Result<()> {
     let mut u = t;
     if kind < row::STORED {
         u.counts[kind] = n;
     }
-    say(note);
-    say(b"\t");
+    say(to, note)?;
+    say(to, b"\t")?;
     let mut out = [0u8; TEXT];
-    say_written(table::write_table(&mut out, u));
-    say(b"\n");
+    say_written(to, table::write_table(&mut out, u))?;
+    say(to, b"\n")
 }
 
-fn show_spoiled() {
+fn show_spoiled<W: Write>(to: &mut W) -> io::Result<()> {
     let r = table::read_table(
         b"task\t10\t5\nact\t0\ncodel\t0\tstart\t20\nedge\t0\tether\trun\nend\t4\n",
     );
     let t = r.table;
-    show_row(b"K given to the writer", t, 0, 10);
-    show_row(b"period 0", t, 0, 0);
-    show_row(b"keep above the most ticks", t, 1, 1000000001);
-    show_row(b"keep ether", t, 1, table::ETHER_SLOT);
-    show_row(b"an activity of task 1", t, ACT_ROWS, 1);
-    show_row(b"limit 0", t, CODEL_ROWS + 2, 0);
-    show_row(b"the start made a stop", t, CODEL_ROWS + 1, 1);
-    show_row(b"an unused row changed", t, CODEL_ROWS + row::FIELDS, 7);
-    show_row(b"the edge to its own codel", t, EDGE_ROWS + 1, 0);
-    show_row(b"the edge to a codel past the last", t, EDGE_ROWS + 1, 1);
-    show_row(b"a pause to ether", t, EDGE_ROWS + 2, 1);
-    show_count(b"no task", t, 0, 0);
-    show_count(b"a second task, all zeros", t, 0, 2);
-    show_count(b"a second activity without start", t, 1, 2);
-    show_count(b"no codel", t, 2, 0);
-    show_count(b"no edge", t, 3, 0);
-    show_count(b"a mutex of codel 0 and codel 0", t, 4, 1);
-    show_count(b"more tasks than there can be", t, 0, 18446744073709551615);
+    show_row(to, b"K given to the writer", t, 0, 10)?;
+    show_row(to, b"period 0", t, 0, 0)?;
+    show_row(to, b"keep above the most ticks", t, 1, 1000000001)?;
+    show_row(to, b"keep ether", t, 1, table::ETHER_SLOT)?;
+    show_row(to, b"an activity of task 1", t, ACT_ROWS, 1)?;
+    show_row(to, b"limit 0", t, CODEL_ROWS + 2, 0)?;
+    show_row(to, b"the start made a stop", t, CODEL_ROWS + 1, 1)?;
+    show_row(to, b"an unused row changed", t, CODEL_ROWS + row::FIELDS, 7)?;
+    show_row(to, b"the edge to its own codel", t, EDGE_ROWS + 1, 0)?;
+    show_row(
+        to,
+        b"the edge to a codel past the last",
+        t,
+        EDGE_ROWS + 1,
+        1,
+    )?;
+    show_row(to, b"a pause to ether", t, EDGE_ROWS + 2, 1)?;
+    show_count(to, b"no task", t, 0, 0)?;
+    show_count(to, b"a second task, all zeros", t, 0, 2)?;
+    show_count(to, b"a second activity without start", t, 1, 2)?;
+    show_count(to, b"no codel", t, 2, 0)?;
+    show_count(to, b"no edge", t, 3, 0)?;
+    show_count(to, b"a mutex of codel 0 and codel 0", t, 4, 1)?;
+    show_count(
+        to,
+        b"more tasks than there can be",
+        t,
+        0,
+        18446744073709551615,
+    )
 }
 
 // The three numbers of a row.
-#[derive(Drop)]
+#[derive(Clone, Copy)]
 struct Numbers {
     a: u32,
     b: u32,
@@ -339,26 +370,50 @@ fn largest() -> Table {
 }
 
 // One row too many of each kind, though it has no numbers: 3 at its line.
-fn show_full() {
+fn show_full<W: Write>(to: &mut W) -> io::Result<()> {
     let t = largest();
-    show_row(b"the largest table", t, 0, 10);
+    show_row(to, b"the largest table", t, 0, 10)?;
     show_row(
+        to,
         b"a codel kind past main is written as main",
         t,
         CODEL_ROWS + row::FIELDS + 1,
         5,
-    );
-    show_count(b"a seventeenth task given", t, 0, model::MOST_TASKS + 1);
-    show_count(b"a sixty-fifth activity given", t, 1, model::MOST_ACTS + 1);
-    show_count(b"a codel past 256 given", t, 2, model::MOST_CODELS + 1);
-    show_count(b"an edge past 512 given", t, 3, model::MOST_EDGES + 1);
-    show_count(b"a mutex past 512 given", t, 4, model::MOST_MUTEXES + 1);
+    )?;
+    show_count(to, b"a seventeenth task given", t, 0, model::MOST_TASKS + 1)?;
+    show_count(
+        to,
+        b"a sixty-fifth activity given",
+        t,
+        1,
+        model::MOST_ACTS + 1,
+    )?;
+    show_count(to, b"a codel past 256 given", t, 2, model::MOST_CODELS + 1)?;
+    show_count(to, b"an edge past 512 given", t, 3, model::MOST_EDGES + 1)?;
+    show_count(to, b"a mutex past 512 given", t, 4, model::MOST_MUTEXES + 1)
 }
 
-fn main() {
-    let mut buf = io::large_buffer();
-    let n = io::read_full(0, &mut buf);
-    show_cases(&buf[..n]);
-    show_spoiled();
-    show_full();
+// Reads until the buffer is full or the input ends, and says how many bytes came.
+fn read_cases<R: Read>(input: &mut R, buf: &mut [u8]) -> io::Result<usize>
+    ensures { IfOk result (λ n. n ≤ length buf.old) }
+{
+    let mut have = 0;
+    while have < buf.len() {
+        let got = input.read(&mut buf[have..])?;
+        if got == 0 {
+            return Ok(have);
+        }
+        have += got;
+    }
+    Ok(have)
+}
+
+fn main(rt: HostRuntime) -> io::Result<()> {
+    let mut buf = [0u8; LONGEST];
+    let n = read_cases(&mut rt.stdin(), &mut buf)?;
+    let cases = &buf[..n];
+    let mut out = rt.stdout();
+    show_cases(&mut out, cases)?;
+    show_spoiled(&mut out)?;
+    show_full(&mut out)
 }

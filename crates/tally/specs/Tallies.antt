@@ -67,11 +67,12 @@ abbrev pub after_row : Tally → Tally
 after_row c = record { steps = c.steps; rows = c.rows + 1; opened = c.opened; kept = c.kept; dropped = c.dropped; since = c.since; most = c.most }
 
 -- the tally of a log whose first line, a `state` row, sets the state: "managing tasks at the start count as opened"
+unfoldable pub began : Table → State → Tally
+began K s = record { steps = 0; rows = 1; opened = managing K s; kept = 0; dropped = 0; since = 0; most = 0 }
+
+-- the same by how many tasks manage there
 abbrev pub begun_with : ℕ → Tally
 begun_with opened = record { steps = 0; rows = 1; opened = opened; kept = 0; dropped = 0; since = 0; most = 0 }
-
-unfoldable pub began : Table → State → Tally
-began K s = begun_with (managing K s)
 
 -- the verdict on a task whose record is x, at a date
 abbrev pub ruled_by : Table → ℕ → ℕ → Task → Ruling

@@ -1,4 +1,6 @@
 // The tally of a run, the verdicts on its cycles, and the numbers of the `sum` row.
+#![tactic(auto)]
+
 ghost use Rattle.std.specs.Prelude.{◌≡◌, ◌<◌, ◌≤◌};
 ghost use Rattle.model.specs.Cycles.{managing, line_of};
 ghost use Rattle.report.specs.Rows.{sum_numbers};
@@ -10,7 +12,7 @@ use report::Cycle;
 
 // What is counted beside a run: accepted steps, `state` rows, cycles opened, kept and dropped, the steps since the last wait, and the most of
 // the stretches that a wait has ended.
-#[derive(Drop)]
+#[derive(Clone, Copy)]
 pub struct Tally {
     pub steps: u64,
     pub rows: u64,
@@ -22,7 +24,7 @@ pub struct Tally {
 }
 
 // The verdict that a step gives: none, or on the cycle that it closes.
-#[derive(Drop)]
+#[derive(Clone, Copy)]
 pub enum Ruling {
     Open,
     Kept(Cycle),

@@ -1,4 +1,6 @@
 // Bytes: the numbers, sets, words, lines and fields of which tables, logs and reports are made.
+#![tactic(auto)]
+
 ghost use Rattle.std.specs.Prelude.{◌≡◌, ◌+◌, ◌-◌, ◌<◌, ◌≤◌, ◌^◌, length, drop, leb};
 ghost use Rattle.std.proofs.lemmas.List.Edits.{sets};
 ghost use Rattle.text.specs.Parts.{first_at, field_at};
@@ -34,42 +36,42 @@ pub const ETHER: u64 = 10000000000;
 const WIDEST: usize = 19;
 
 // What a field says as a number: its value, or bad form.
-#[derive(Drop)]
+#[derive(Clone, Copy)]
 pub enum Number {
     Is(u64),
     Bad,
 }
 
 // A set: its first members are the bits of the low half, counted from the low end, and those from 64 on are the bits of the high half.
-#[derive(Drop)]
+#[derive(Clone, Copy)]
 pub struct Set {
     pub low: u64,
     pub high: u64,
 }
 
 // What a field says as a set: which one, or bad form.
-#[derive(Drop)]
+#[derive(Clone, Copy)]
 pub enum SetField {
     Is(Set),
     Bad,
 }
 
 // Which word of a set a field is, if it is one.
-#[derive(Drop)]
+#[derive(Clone, Copy)]
 pub enum Word {
     Is(usize),
     Unknown,
 }
 
 // Where a field of a line starts and ends, if the line has it.
-#[derive(Drop)]
+#[derive(Clone, Copy)]
 pub enum Field {
     At(usize, usize),
     Absent,
 }
 
 // A field's value and where it ends, or bad form.
-#[derive(Drop)]
+#[derive(Clone, Copy)]
 pub enum Got {
     Is(u64, usize),
     Bad,

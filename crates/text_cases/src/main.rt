@@ -8,11 +8,19 @@
 //   word NOTE FIELD              which word of the set below the field is, and that word written again
 //   place NOTE ..                where field 3 of this line starts and ends
 // The fields of a case are parted by tabs; its answer is the note, a tab and the result.
-use libc::STDOUT_FILENO;
+#![tactic(auto)]
+
+ghost use Rattle.std.specs.Prelude.{◌≤◌, length, IfOk};
+
+use std::io;
+use std::io::{Read, Write};
 use text::{Field, Number, Set, SetField, Word};
 
 // The longest answer.
 const ROOM: usize = 128;
+
+// How much of standard input is read at most.
+const LONGEST: usize = 65536;
 
 // Field i of a line; nothing where the line has no such field.
 fn part(line: &[u8], i: usize) -> &[u8] {
@@ -148,35 +156,53 @@ fn put_case(line: &[u8], out: &mut [u8], at: usize) -> usize {
 }
 
 // Writes the first n bytes.
-fn write(out: &[u8], n: usize) {
+fn write<W: Write>(to: &mut W, out: &[u8], n: usize) -> io::Result<()> {
     if n <= out.len() {
-        io::write_all(STDOUT_FILENO, &out[..n]);
+        to.write_all(&out[..n])?;
     }
+    Ok(())
 }
 
-fn show(line: &[u8]) {
+fn show<W: Write>(to: &mut W, line: &[u8]) -> io::Result<()> {
     let mut out = [0u8; ROOM];
     let p = text::put_bytes(&mut out, 0, part(line, 1));
     let q = text::put_bytes(&mut out, p, b"\t");
     let r = put_case(line, &mut out, q);
     let e = text::put_bytes(&mut out, r, b"\n");
-    write(&out, e);
+    write(to, &out, e)
 }
 
-fn run(s: &[u8]) {
+fn run<W: Write>(to: &mut W, s: &[u8]) -> io::Result<()> {
     let mut at = 0;
     while at < s.len() {
         let e = text::next_byte(s, at, text::NEWLINE);
-        show(&s[at..e]);
+        show(to, &s[at..e])?;
         if s.len() <= e {
-            return;
+            return Ok(());
         }
         at = e + 1;
     }
+    Ok(())
 }
 
-fn main() {
-    let mut buf = io::large_buffer();
-    let n = io::read_full(0, &mut buf);
-    run(&buf[..n]);
+// Reads until the buffer is full or the input ends, and says how many bytes came.
+fn read_cases<R: Read>(input: &mut R, buf: &mut [u8]) -> io::Result<usize>
+    ensures { IfOk result (λ n. n ≤ length buf.old) }
+{
+    let mut have = 0;
+    while have < buf.len() {
+        let got = input.read(&mut buf[have..])?;
+        if got == 0 {
+            return Ok(have);
+        }
+        have += got;
+    }
+    Ok(have)
+}
+
+fn main(rt: HostRuntime) -> io::Result<()> {
+    let mut buf = [0u8; LONGEST];
+    let n = read_cases(&mut rt.stdin(), &mut buf)?;
+    let cases = &buf[..n];
+    run(&mut rt.stdout(), cases)
 }

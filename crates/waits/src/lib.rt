@@ -1,4 +1,6 @@
 // `wait`: what it asks of each task and its holder, and its number.
+#![tactic(auto)]
+
 ghost use Rattle.std.specs.Prelude.{◌≡◌, ◌<◌, ◌≤◌, length, T};
 ghost use Rattle.text.specs.Fields.{ether_value};
 ghost use Rattle.model.specs.Limits.{most_ticks, ceiling};

@@ -1,0 +1,28 @@
+use mathlib.Core.Path.{◌≡◌, refl, ◌∙◌}
+use native.Mathlib.Omega.{arith}
+use lib.ListN.{get_or, length-set}
+use Rattle.table.specs.Tables.{table_of}
+use Rattle.preparing.specs.Filling.{kinds_noted}
+use Rattle.preparing.proofs.Cells.{most_codels_lem, owner_low, placed_low}
+use Rattle.preparing.proofs.Filling.{kinds_more}
+use Rattle.preparing.proofs.note_kinds.Goals as goal
+
+pub loop-c-init : goal.loop-c-init
+unfolding kinds_noted
+loop-c-init c = (omega arith, most_codels_lem c.requires.0, c.requires.1, refl)
+
+pub kind_place-p-requires : goal.kind_place-p-requires
+kind_place-p-requires c = owner_low c.requires.0 c.loop-c.c _ (omega arith) (c.size-a.ensures ∙ c.number.ensures)
+
+pub offset_bounds-index-p : goal.offset_bounds-index-p
+offset_bounds-index-p c = record { fits = omega (arith, placed_low c.requires.0 c.loop-c.c _ c.number-in-loop-c.result _ (omega arith) (c.size-a.ensures ∙ c.number.ensures) c.kind_place-p.ensures) }
+
+pub bounds-index-p : goal.bounds-index-p
+bounds-index-p c = omega (arith, placed_low c.requires.0 c.loop-c.c _ c.number-in-loop-c.result _ (omega arith) (c.size-a.ensures ∙ c.number.ensures) c.kind_place-p.ensures)
+
+pub loop-c-preserved : goal.loop-c-preserved
+loop-c-preserved c = (omega arith, omega arith, simp length-set c.loop-c.invariant.2, kinds_more c.requires.0 _ _ _ _ _ _ (omega arith) (c.size-a.ensures ∙ c.number.ensures) c.number-in-loop-c.ensures c.kind_place-p.ensures c.loop-c.invariant.3)
+
+pub returns : goal.returns
+unfolding table_of
+returns c = let e : c.loop-c.c ≡ get_or c.args.counts 2 0 = omega arith in rw e at c.loop-c.invariant.3

@@ -1,0 +1,12 @@
+-- `counts_ok` meets its contract.
+use Rattle.soundness.proofs.Parts.{sums}
+use Rattle.soundness.proofs.counts_ok.Goals as goal
+
+pub returns-then-date-x : goal.returns-then-date-x
+returns-then-date-x c = search sums
+
+pub returns-then-a-x : goal.returns-then-a-x
+returns-then-a-x c = search sums
+
+pub returns : goal.returns
+returns c = search sums

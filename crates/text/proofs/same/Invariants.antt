@@ -1,0 +1,12 @@
+-- `same` meets its contract. The two are alike from i on where they are alike.
+use Prim.Native.Nat.{◌-◌}
+use mathlib.Core.Path.{◌≡◌}
+use lib.ListN.{length, drop}
+use Rattle.text.specs.Words.{same_list}
+use Rattle.text.proofs.same.Given as goal
+
+abbrev pub invariant-loop-i : goal.invariant-loop-i
+invariant-loop-i l = (length l.a ≡ length l.b) × (same_list (drop l.i l.a) (drop l.i l.b) ≡ same_list l.a l.b)
+
+abbrev pub decreases-loop-i : goal.decreases-loop-i
+decreases-loop-i l = length l.a - l.i
