@@ -30,7 +30,7 @@ pub fn run_script(command: &mut Command) {
 /// The program NAME of target/bin.
 pub fn product(name: &str) -> PathBuf {
     let program = repository().join("target/bin").join(name);
-    assert!(program.is_file(), "target/bin/{} is missing: build it by `rt check {}`", name, name);
+    assert!(program.is_file(), "target/bin/{} is missing: build it by `sh host/product {}`", name, name);
     program
 }
 
