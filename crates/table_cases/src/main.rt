@@ -5,18 +5,13 @@
 // a buffer of just its length and into one that is a byte shorter. After the cases the writer is given tables that no text says.
 #![tactic(auto)]
 
-ghost use Rattle.std.specs.Prelude.{◌≤◌, length, IfOk};
-
 use std::io;
-use std::io::{Read, Write};
+use std::io::Write;
 use table::{Answer, Table, Wrote};
 use text::{Field, Word};
 
 // How much room there is for a text written again.
 const TEXT: usize = table::LONGEST;
-
-// How much of standard input is read at most.
-const LONGEST: usize = 65536;
 
 // Writes the first n bytes.
 fn write<W: Write>(to: &mut W, out: &[u8], n: usize) -> io::Result<()> {
@@ -393,25 +388,10 @@ fn show_full<W: Write>(to: &mut W) -> io::Result<()> {
     show_count(to, b"a mutex past 512 given", t, 4, model::MOST_MUTEXES + 1)
 }
 
-// Reads until the buffer is full or the input ends, and says how many bytes came.
-fn read_cases<R: Read>(input: &mut R, buf: &mut [u8]) -> io::Result<usize>
-    ensures { IfOk result (λ n. n ≤ length buf.old) }
-{
-    let mut have = 0;
-    while have < buf.len() {
-        let got = input.read(&mut buf[have..])?;
-        if got == 0 {
-            return Ok(have);
-        }
-        have += got;
-    }
-    Ok(have)
-}
-
 fn main(rt: HostRuntime) -> io::Result<()> {
-    let mut buf = [0u8; LONGEST];
-    let n = read_cases(&mut rt.stdin(), &mut buf)?;
-    let cases = &buf[..n];
+    let mut block = [0u8; blocks::BLOCK];
+    let n = blocks::read_behind(&mut rt.stdin(), &mut block, 0)?;
+    let cases = &block[..n];
     let mut out = rt.stdout();
     show_cases(&mut out, cases)?;
     show_spoiled(&mut out)?;

@@ -10,17 +10,12 @@
 // The fields of a case are parted by tabs; its answer is the note, a tab and the result.
 #![tactic(auto)]
 
-ghost use Rattle.std.specs.Prelude.{◌≤◌, length, IfOk};
-
 use std::io;
-use std::io::{Read, Write};
+use std::io::Write;
 use text::{Field, Number, Set, SetField, Word};
 
 // The longest answer.
 const ROOM: usize = 128;
-
-// How much of standard input is read at most.
-const LONGEST: usize = 65536;
 
 // Field i of a line; nothing where the line has no such field.
 fn part(line: &[u8], i: usize) -> &[u8] {
@@ -185,24 +180,9 @@ fn run<W: Write>(to: &mut W, s: &[u8]) -> io::Result<()> {
     Ok(())
 }
 
-// Reads until the buffer is full or the input ends, and says how many bytes came.
-fn read_cases<R: Read>(input: &mut R, buf: &mut [u8]) -> io::Result<usize>
-    ensures { IfOk result (λ n. n ≤ length buf.old) }
-{
-    let mut have = 0;
-    while have < buf.len() {
-        let got = input.read(&mut buf[have..])?;
-        if got == 0 {
-            return Ok(have);
-        }
-        have += got;
-    }
-    Ok(have)
-}
-
 fn main(rt: HostRuntime) -> io::Result<()> {
-    let mut buf = [0u8; LONGEST];
-    let n = read_cases(&mut rt.stdin(), &mut buf)?;
-    let cases = &buf[..n];
+    let mut block = [0u8; blocks::BLOCK];
+    let n = blocks::read_behind(&mut rt.stdin(), &mut block, 0)?;
+    let cases = &block[..n];
     run(&mut rt.stdout(), cases)
 }
