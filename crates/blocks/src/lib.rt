@@ -24,12 +24,8 @@ fn read_part<R: Read>(input: &mut R, part: &mut [u8]) -> io::Result<usize>
 {
     for _ in 0..u64::MAX {
         match input.read(part) {
-            Ok(got) => return Ok(got),
-            Err(e) => {
-                if e.kind() != ErrorKind::Interrupted {
-                    return Err(e);
-                }
-            }
+            Err(e) if e.kind() == ErrorKind::Interrupted => {}
+            told => return told,
         }
     }
     input.read(part)
@@ -58,6 +54,7 @@ pub fn read_behind<R: Read>(input: &mut R, block: &mut [u8], have: usize) -> io:
     ensures lost { OnErr result ((got : ℕ) × (have + got ≤ length block.old) × Consumes (R.remaining input.old) (R.remaining input.new) (take got (drop have block.new))) }
 {
     let mut at = have;
+    // a turn for each read, and how many there are the input alone knows
     while at < block.len() {
         let got = read_once(input, block, at)?;
         if got == 0 {
@@ -68,7 +65,7 @@ pub fn read_behind<R: Read>(input: &mut R, block: &mut [u8], have: usize) -> io:
     Ok(at - have)
 }
 
-// The bytes at hand, and whether the input has ended.
+// The bytes at hand, and whether the input has ended: two facts, each of them there whatever the other is.
 #[derive(Clone, Copy)]
 pub struct Start {
     pub have: usize,
@@ -86,13 +83,11 @@ pub fn read_start<R: Read>(input: &mut R, block: &mut [u8]) -> io::Result<Start>
 {
     let mut have = 0;
     let mut ended = false;
+    // How many reads it takes is not known before.
     while !stream::cut_known(&block[..have], ended) {
         let got = read_behind(input, block, have)?;
         have += got;
         ended = got == 0;
     }
-    Ok(Start {
-        have: have,
-        ended: ended,
-    })
+    Ok(Start { have, ended })
 }

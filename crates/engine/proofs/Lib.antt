@@ -2,10 +2,10 @@ pub mod Lines
 pub mod Pausing
 pub mod Runs
 pub mod Passing
-pub mod Waiting
-pub mod Naming
-pub mod Managing
-pub mod Stepping
 pub mod Answers
+pub mod Finding
+pub mod Stepping
+pub mod Managing
+pub mod Waiting
 pub mod Starting
 pub mod Unique

@@ -12,16 +12,16 @@ use Rattle.text.specs.Parts.{first_at, parts_from}
 use Rattle.text.proofs.Parts.{parts_cut, parts_none}
 use Rattle.text.proofs.Picks.{cases, order, passed, false_true}
 use Rattle.text.proofs.Seeking.{part_ends}
+use Rattle.std.specs.Prelude.{Some, None}
 use Rattle.model.specs.Tables.{Table}
 use Rattle.model.specs.declared.State.{State}
 use Rattle.model.specs.declared.Step.{Step}
-use Rattle.model.specs.declared.Line.TheVariants.{Is, Bad}
 use Rattle.logs.specs.Lines.{set_digits, read_step}
 use Rattle.logs.proofs.Shapes.{no_step_lem}
 use Rattle.saved.specs.Rows.{begins_row}
 use Rattle.saved.proofs.Rows.{begins_no_step}
 use Rattle.engine.specs.Play.{Played, pieces, stopped, on_step, goes_by, up_to_row, paused, is_closed, is_row, AtRow}
-use Rattle.engine.specs.Turns.{line_at, passes_at, row_or, stop_at}
+use Rattle.engine.specs.Turns.{line_at, passes_at, row_or}
 use Rattle.tally.specs.Tallies.{after_row}
 use Rattle.tally.specs.declared.Tally.{Tally}
 use Rattle.engine.specs.declared.Stop.TheVariants.{End, Refused}
@@ -87,17 +87,17 @@ module _ (K : Table) (s : State) (c : Tally) (room : ℕ) (log : List ℕ) where
         let q = passed (eqb e (length log)) false_true y in
         let n : e ≡ length log → ⊥ = eqb-false e (length log) q.0 in
         let l : e < length log = omega (arith, part_ends log at e 10 before_end f, n) in
-        let i : line_at log at e ≡ Bad = rw q.0 (begins_no_step set_digits _ (row_goes K s c _ q.1).0) in
+        let i : line_at log at e ≡ None = rw q.0 (begins_no_step set_digits _ (row_goes K s c _ q.1).0) in
         (l, ended l ∙ rw (i, q.1))
 
     -- neither a step nor such a row
-    pub at_unread : line_at log at e ≡ Bad → passes_at K s c log at e ≡ false → paused K s c room (pieces log at) ≡ stopped s c (row_or log at e 11) (pieces log at)
+    pub at_unread : line_at log at e ≡ None → passes_at K s c log at e ≡ false → paused K s c room (pieces log at) ≡ stopped s c (row_or log at e 11) (pieces log at)
     at_unread b y =
         order e (length log)
         (λ l. let o = ne_eqb e (length log) (not_end l) in let z : goes_by K s c (take (e - at) (drop at log)) ≡ false = rw o at y in ended l ∙ rw (b, o, z))
         (λ l. let q : e ≡ length log = omega (arith, part_ends log at e 10 before_end f) in open_ended l ∙ rw (eq-eqb _ _ q))
 
-    module _ (x : Step) (i : line_at log at e ≡ Is x) where
+    module _ (x : Step) (i : line_at log at e ≡ Some x) where
       -- a step's line is ended by a newline
       pub step_ends : e < length log
       step_ends = order e (length log) (λ l. l) (λ l.
@@ -107,39 +107,19 @@ module _ (K : Table) (s : State) (c : Tally) (room : ℕ) (log : List ℕ) where
       pub at_step : paused K s c room (pieces log at) ≡ on_step K s c room x (pieces log at) (pieces log (e + 1)) (λ w d n. paused K w d n (pieces log (e + 1)))
       at_step = ended step_ends ∙ rw i
 
--- a step's line is no row
-pub step_stays : (K : Table) (s : State) (c : Tally) (log : List ℕ) (at e : ℕ) (x : Step) → line_at log at e ≡ Is x → passes_at K s c log at e ≡ false
-step_stays K s c log at e x i =
-    cases (passes_at K s c log at e)
-    (λ y.
-    let q = passed (eqb e (length log)) false_true y in
-    let b : line_at log at e ≡ Bad = rw q.0 (begins_no_step set_digits _ (row_goes K s c _ q.1).0) in
-    absurd (no_step_lem (sym b ∙ i)))
-    (λ y. y)
-
--- nor is there one at the end
-pub end_stays : (K : Table) (s : State) (c : Tally) (log : List ℕ) (at : ℕ) → length log ≤ at → at ≤ length log → passes_at K s c log at (first_at log at 10) ≡ false
-end_stays K s c log at h l = let z : at + 0 ≡ length log = omega arith in rw (drop_of_length-le log h, eq-eqb _ _ z)
-
--- a run that no lack of room stopped closes no cycle there
-pub stop_unclosed : {P : Type 0} (log : List ℕ) (at n : ℕ) → T (is_closed (stop_at log at n)) → P
-stop_unclosed log at n t =
-    cases (eqb n 0)
-    (λ z. absurd (rw z at t))
-    (λ z.
-    cases (eqb (first_at log at 10) (length log))
-    (λ h. absurd (rw (z, h) at t))
-    (λ h. cases (begins_row (take (first_at log at 10 - at) (drop at log))) (λ y. absurd (rw (z, h, y) at t)) (λ y. absurd (rw (z, h, y) at t))))
+-- a run that leaves at a line that is no step closes no cycle there
+pub row_unclosed : {P : Type 0} (log : List ℕ) (at e n : ℕ) → T (is_closed (row_or log at e n)) → P
+row_unclosed log at e n t =
+    cases (eqb e (length log))
+    (λ h. absurd (rw h at t))
+    (λ h. cases (begins_row (take (e - at) (drop at log))) (λ y. absurd (rw (h, y) at t)) (λ y. absurd (rw (h, y) at t)))
 
 -- where it leaves at a row, that stands there with its newline
-pub row_there : (log : List ℕ) (at n : ℕ) → at ≤ length log → T (is_row (stop_at log at n)) → AtRow log at
-row_there log at n l t =
-    cases (eqb n 0)
-    (λ z. absurd (rw z at t))
-    (λ z.
-    cases (eqb (first_at log at 10) (length log))
-    (λ h. absurd (rw (z, h) at t))
+pub row_there : (log : List ℕ) (at e n : ℕ) → at ≤ length log → e ≡ first_at log at 10 → T (is_row (row_or log at e n)) → AtRow log at
+row_there log at e n l f t =
+    cases (eqb e (length log))
+    (λ h. absurd (rw h at t))
     (λ h.
-    cases (begins_row (take (first_at log at 10 - at) (drop at log)))
-    (λ y. record { ends = omega (arith, part_ends log at _ 10 l refl, eqb-false (first_at log at 10) (length log) h); begins = y })
-    (λ y. absurd (rw (z, h, y) at t))))
+    cases (begins_row (take (e - at) (drop at log)))
+    (λ y. record { ends = omega (arith, f, part_ends log at _ 10 l refl, eqb-false e (length log) h); begins = rw (← f) y })
+    (λ y. absurd (rw (h, y) at t)))

@@ -89,22 +89,23 @@ module _ (K : Table) (wf : T (wellformed K)) (s : State) (S : Sound K s) where
 -- The row's parts, compared one after another: the place behind the head and the first k tasks, and behind all tasks and the first k
 -- activities.
 pub record TasksPast (K : Table) (s : State) (log : List ℕ) (at p k : ℕ) : Type 0 where
-  pub most : k ≤ K.ntasks
   pub place : p ≡ past log at (head_text s.date ++ tasks_text K s k)
 
 pub record ActsPast (K : Table) (s : State) (log : List ℕ) (at p k : ℕ) : Type 0 where
-  pub most : k ≤ K.nacts
   pub place : p ≡ past log at (head_text s.date ++ (tasks_text K s K.ntasks ++ acts_text s k))
 
 module _ {K : Table} {s : State} {log : List ℕ} {at : ℕ} where
   pub tasks_first : {p : ℕ} → p ≡ past log at (head_text s.date) → TasksPast K s log at p 0
-  tasks_first q = record { most = omega arith; place = q ∙ past_head K s log at }
+  tasks_first q = record { place = q ∙ past_head K s log at }
 
-  pub acts_first : {p k : ℕ} → TasksPast K s log at p k → {n : ℕ} → n ≡ K.ntasks → n ≤ k → ActsPast K s log at p 0
-  acts_first {k = k} W e h = let z : k ≡ K.ntasks = omega (arith, W.most) in record { most = omega arith; place = W.place ∙ rw z (past_between K s log at) }
+  pub acts_first : {p : ℕ} → p ≡ past log at (head_text s.date ++ tasks_text K s K.ntasks) → ActsPast K s log at p 0
+  acts_first q = record { place = q ∙ past_between K s log at }
 
-  pub acts_all : {p k : ℕ} → ActsPast K s log at p k → {n : ℕ} → n ≡ K.nacts → n ≤ k → p ≡ past log at (row_line K s)
-  acts_all {k = k} W e h = let z : k ≡ K.nacts = omega (arith, W.most) in W.place ∙ rw z (past_row_lem K s log at)
+  pub tasks_all : {p k : ℕ} → TasksPast K s log at p k → k ≡ K.ntasks → p ≡ past log at (head_text s.date ++ tasks_text K s K.ntasks)
+  tasks_all W z = W.place ∙ rw z refl
+
+  pub acts_all : {p k : ℕ} → ActsPast K s log at p k → k ≡ K.nacts → p ≡ past log at (row_line K s)
+  acts_all W z = W.place ∙ rw z (past_row_lem K s log at)
 
   module _ (h : at ≤ length log) where
     pub tasks_within : {p k : ℕ} → TasksPast K s log at p k → p ≤ length log
@@ -113,8 +114,8 @@ module _ {K : Table} {s : State} {log : List ℕ} {at : ℕ} where
     pub acts_within : {p k : ℕ} → ActsPast K s log at p k → p ≤ length log
     acts_within W = rw W.place (past_within log at _ h)
 
-  pub tasks_more : {l : List ℕ} → l ≡ listed_in s → {p k : ℕ} → TasksPast K s log at p k → {n : ℕ} → n ≡ K.ntasks → k < n → {r : ℕ} → r ≡ past log p (fields_text task_forms (task_values (task_at s k) (run_by K l k K.nacts) (halt_by K l k K.nacts))) → TasksPast K s log at r (k + 1)
-  tasks_more e {k = k} W n h q = let w = lists_are K s k K.nacts in record { most = omega arith; place = q ∙ rw (e, w.0, w.1, W.place) (past_tasks K s log at k) }
+  pub tasks_more : {l : List ℕ} → l ≡ listed_in s → {p k : ℕ} → TasksPast K s log at p k → {r : ℕ} → r ≡ past log p (fields_text task_forms (task_values (task_at s k) (run_by K l k K.nacts) (halt_by K l k K.nacts))) → TasksPast K s log at r (k + 1)
+  tasks_more e {k = k} W q = let w = lists_are K s k K.nacts in record { place = q ∙ rw (e, w.0, w.1, W.place) (past_tasks K s log at k) }
 
-  pub acts_more : {p k : ℕ} → ActsPast K s log at p k → {n : ℕ} → n ≡ K.nacts → k < n → {r : ℕ} → r ≡ past log p (fields_text act_forms (act_values (act_at s k))) → ActsPast K s log at r (k + 1)
-  acts_more {k = k} W n h q = record { most = omega arith; place = q ∙ rw W.place (past_acts K s log at k) }
+  pub acts_more : {p k : ℕ} → ActsPast K s log at p k → {r : ℕ} → r ≡ past log p (fields_text act_forms (act_values (act_at s k))) → ActsPast K s log at r (k + 1)
+  acts_more {k = k} W q = record { place = q ∙ rw W.place (past_acts K s log at k) }

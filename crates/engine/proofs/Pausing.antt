@@ -7,14 +7,13 @@ use native.Mathlib.Omega.{arith}
 use lib.Dec.{leb, eqb}
 use lib.ListN.{length, length-append}
 use Rattle.text.proofs.Picks.{cases, picked, passed, false_true}
+use Rattle.std.specs.Prelude.{Option, Some, None}
 use Rattle.model.specs.Tests.{accepted}
 use Rattle.model.specs.Tables.{Table}
 use Rattle.model.specs.Rules.{refusal, next}
 use Rattle.model.specs.Cycles.{Verdict, none, kept, dropped, verdict}
 use Rattle.model.specs.declared.State.{State}
 use Rattle.model.specs.declared.Step.{Step}
-use Rattle.model.specs.declared.Line.{Line}
-use Rattle.model.specs.declared.Line.TheVariants.{Is, Bad}
 use Rattle.logs.specs.Lines.{set_digits, read_step}
 use Rattle.saved.specs.Rows.{begins_row}
 use Rattle.entries.specs.Entries.{stays, resumed}
@@ -85,14 +84,14 @@ module _ (K : Table) where
   from_row s c room ps = let e : room ≡ room - 0 = omega arith in ap (λ n. played K s c n ps) e
 
   -- at a line with its newline
-  on_line_lem : (p q : List ℕ) (ps : List (List ℕ)) → ((w : State) (d : Tally) (n : ℕ) → played K w d n (q ∷ ps) ≡ played_on n (paused K w d n (q ∷ ps))) → (s : State) (c : Tally) (room : ℕ) (x : Line) → read_step set_digits p ≡ x
+  on_line_lem : (p q : List ℕ) (ps : List (List ℕ)) → ((w : State) (d : Tally) (n : ℕ) → played K w d n (q ∷ ps) ≡ played_on n (paused K w d n (q ∷ ps))) → (s : State) (c : Tally) (room : ℕ) (x : Option Step) → read_step set_digits p ≡ x
       → played K s c room (p ∷ q ∷ ps) ≡ played_on room (up_to_row K s c room p x (p ∷ q ∷ ps) (q ∷ ps) (λ w d n. paused K w d n (q ∷ ps)))
   unfolding played
-  on_line_lem p q ps h s c room Bad e =
+  on_line_lem p q ps h s c room None e =
       cases (goes_by K s c p)
       (λ y. let r = row_goes K s c p y in rw (e, y, r.0, r.1) (h s (after_row c) room))
       (λ z. cases (begins_row p) (λ y. rw (z, y) (from_row s c room (p ∷ q ∷ ps))) (λ y. rw (z, e, y)))
-  on_line_lem p q ps h s c room (Is x) e = rw e (on_step_lem s c room x (p ∷ q ∷ ps) (q ∷ ps) (λ w d n. played K w d n (q ∷ ps)) (λ w d n. paused K w d n (q ∷ ps)) h)
+  on_line_lem p q ps h s c room (Some x) e = rw e (on_step_lem s c room x (p ∷ q ∷ ps) (q ∷ ps) (λ w d n. played K w d n (q ∷ ps)) (λ w d n. paused K w d n (q ∷ ps)) h)
 
   -- what a log comes to is what it comes to from that row on, behind what it came to up to there
   pub plays_on : (ps : List (List ℕ)) (s : State) (c : Tally) (room : ℕ) → played K s c room ps ≡ played_on room (paused K s c room ps)

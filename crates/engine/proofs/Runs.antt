@@ -1,4 +1,5 @@
--- A run, line after line: what its loop keeps, where it stops, how an accepted step takes it on, and how the row of a kept cycle is told.
+-- A run, line after line: what its loop keeps, where it stops, how an accepted step and a row that goes by take it on, and how the row of a
+-- kept cycle is told.
 use Prim.Native.Nat.{ℕ, ◌+◌, ◌-◌, ◌≤◌, ◌<◌}
 use mathlib.Core.Bool.{true, false}
 use mathlib.Core.List.{List, [], ◌++◌, append-nil}
@@ -6,54 +7,56 @@ use mathlib.Core.Path.{◌≡◌, refl, ap, sym, subst⁻¹, ◌∙◌}
 use native.Mathlib.Omega.{arith}
 use borrow.Author.Tests.{ne_eqb, le-leb, lt-leb}
 use lib.Dec.{T}
-use lib.ListN.{length, length-map, length-append}
+use lib.ListN.{length, take, drop, length-append}
 use lib.Seq.{sets, length-sets}
-use Rattle.text.specs.Parts.{first_at}
+use Rattle.text.specs.Parts.{pick, first_at}
 use Rattle.text.specs.Put.{Put}
-use Rattle.text.proofs.Picks.{order, false_true}
+use Rattle.text.proofs.Picks.{order}
 use Rattle.text.proofs.Puts.{put_fits, put_short, sets_append}
 use Rattle.text.proofs.Seeking.{part_starts}
-use Rattle.model.specs.Limits.{most_acts}
+use Rattle.std.specs.Prelude.{Option, Some, None}
+use Rattle.model.specs.Limits.{most_tasks, most_acts}
 use Rattle.model.specs.Tables.{Table}
-use Rattle.model.specs.Rules.{refusal, next}
-use Rattle.model.specs.Cycles.{Verdict, none, kept, dropped, verdict}
+use Rattle.model.specs.Refusals.{number_of}
+use Rattle.model.specs.declared.refusal.Refusal.{Refusal}
+use Rattle.model.specs.Logs.{is_wait}
+use Rattle.model.specs.Cycles.{Verdict, none, kept, dropped, verdict, opens, drops}
 use Rattle.model.specs.declared.State.{State}
 use Rattle.model.specs.declared.Step.{Step}
-use Rattle.model.specs.declared.Line.{Line}
-use Rattle.model.specs.declared.Line.TheVariants.{Is, Bad}
+use Rattle.model.specs.declared.Step.TheVariants.{Wait, Sm, OfTask, OfAct}
 use Rattle.model.proofs.Formed.{Formed}
-use Rattle.model.proofs.Soundness.{Shaped, Sound, sound_of, of_sound}
+use Rattle.model.proofs.Soundness.{Sound, sound_of, of_sound}
 use Rattle.model.proofs.StepsKeep.{step_keeps}
-use Rattle.prepared.specs.Prepared.{table_in, Prepared}
-use Rattle.prepared.proofs.Stored.{shape}
-use Rattle.conflicts.specs.Busy.{busy_of, busy_in}
-use Rattle.managing.specs.Listed.{listed_of, listed_in}
+use Rattle.logs.specs.Lines.{set_digits, read_step}
+use Rattle.logs.proofs.Bounds.{read_step_bounds}
+use Rattle.conflicts.specs.Busy.{busy_in}
+use Rattle.managing.specs.Listed.{listed_in}
 use Rattle.report.specs.Rows.{cycle_of, cycle_text}
 use Rattle.report.specs.declared.Cycle.{Cycle}
-use Rattle.report.proofs.Lines.{put_length, row_some}
-use Rattle.tally.specs.Tallies.{after_row, ruling_of, tallied, Roomy}
-use Rattle.engine.specs.Play.{Played, played_to, pieces, stopped, telling, on_kept, on_verdict, on_step, paused, ran_of, Ready, is_closed, is_row, AtRow, Pauses}
-use Rattle.engine.specs.Turns.{line_at, passes_at, stop_at}
+use Rattle.report.proofs.Lines.{row_some}
+use Rattle.tally.specs.Tallies.{after_row, ruling_of, keeps_one, counted, Roomy}
 use Rattle.tally.specs.declared.Tally.{Tally}
 use Rattle.tally.specs.declared.Ruling.{Ruling}
 use Rattle.tally.specs.declared.Ruling.TheVariants.{Kept}
-use Rattle.engine.specs.declared.Stop.{Stop}
-use Rattle.engine.specs.declared.Stop.TheVariants.{Refused, Closed}
-use Rattle.engine.specs.declared.Going.{Going}
-use Rattle.engine.specs.declared.Ran.{Ran}
-use Rattle.engine.proofs.Answers.{stop_step}
-use Rattle.engine.proofs.Lines.{at_end_lem, at_passed, at_unread, step_ends, at_step, step_stays, end_stays, stop_unclosed, row_there}
-use Rattle.engine.proofs.Pausing.{telling_more, played_on, plays_on}
 use Rattle.tally.proofs.Tallying.{roomy_one, row_roomy}
+use Rattle.engine.specs.Play.{Played, played_to, pieces, stopped, telling, on_kept, on_verdict, on_step, paused, Ready, is_closed, is_row, AtRow, Pauses}
+use Rattle.engine.specs.Turns.{line_at, passes_at, row_or}
+use Rattle.engine.specs.Steps.{Finds, Small, Takes, Refuses}
+use Rattle.engine.specs.declared.Stop.{Stop}
+use Rattle.engine.specs.declared.Stop.TheVariants.{End, Refused, Closed}
+use Rattle.engine.specs.declared.Going.{Going}
+use Rattle.engine.proofs.Stepping.{number_some}
+use Rattle.engine.proofs.Lines.{at_end_lem, at_passed, at_unread, step_ends, at_step, row_unclosed, row_there}
+use Rattle.engine.proofs.Pausing.{telling_more, played_on, plays_on}
 
 -- what holds where a line starts: the state is sound, what is kept beside it agrees, and there is room to count the lines left
-pub record Stands (K : Table) (log : List ℕ) (from : ℕ) (s : State) (b l : List ℕ) (c : Tally) (at : ℕ) : Type 0 where
+pub record Stands (K : Table) (log : List ℕ) (from : ℕ) (g : Going) (at : ℕ) : Type 0 where
   pub within : at ≤ length log
   pub onward : from ≤ at
-  pub sound : Sound K s
-  pub busy : b ≡ busy_in s
-  pub listed : l ≡ listed_in s
-  pub roomy : Roomy c (length log - at)
+  pub sound : Sound K g.state
+  pub busy : g.busy ≡ busy_in g.state
+  pub listed : g.listed ≡ listed_in g.state
+  pub roomy : Roomy g.tally (length log - at)
 
 -- the rows written so far into a buffer that was lent, from a place on
 pub record Rows (lent : List ℕ) (place : ℕ) (buf : List ℕ) (end : ℕ) : Type 0 where
@@ -63,32 +66,22 @@ pub record Rows (lent : List ℕ) (place : ℕ) (buf : List ℕ) (end : ℕ) : T
   pub bytes : buf ≡ sets lent place text
 
 -- and the lines from there up to a row that does not go by come, behind those rows, to what all come to from the start
-pub record Plays (K : Table) (log : List ℕ) (from : ℕ) (s₀ : State) (c₀ : Tally) (lent : List ℕ) (place : ℕ) (s : State) (b l : List ℕ) (c : Tally) (at : ℕ) (buf : List ℕ) (filled : ℕ) : Type 0 where
-  pub here : Stands K log from s b l c at
+pub record Plays (K : Table) (log : List ℕ) (from : ℕ) (start : Going) (lent : List ℕ) (place : ℕ) (g : Going) (at : ℕ) (buf : List ℕ) (filled : ℕ) : Type 0 where
+  pub here : Stands K log from g at
   pub rows : Rows lent place buf filled
-  pub rest : telling rows.text (paused K s c (length lent - filled) (pieces log at)) ≡ paused K s₀ c₀ (length lent - place) (pieces log from)
+  pub rest : telling rows.text (paused K g.state g.tally (length lent - filled) (pieces log at)) ≡ paused K start.state start.tally (length lent - place) (pieces log from)
 
--- and no line was refused
-pub record Continues (K : Table) (log : List ℕ) (from : ℕ) (s₀ : State) (c₀ : Tally) (lent : List ℕ) (place : ℕ) (s : State) (b l : List ℕ) (c : Tally) (at : ℕ) (buf : List ℕ) (filled n : ℕ) : Type 0 where
-  pub plays : Plays K log from s₀ c₀ lent place s b l c at buf filled
-  pub none : n ≡ 0
-
--- and the run stops at the line there, with so much as its refusal, unless that is a row that goes by
-pub record Halts (K : Table) (log : List ℕ) (from : ℕ) (s₀ : State) (c₀ : Tally) (lent : List ℕ) (place : ℕ) (s : State) (b l : List ℕ) (c : Tally) (at : ℕ) (buf : List ℕ) (filled n : ℕ) : Type 0 where
-  pub plays : Plays K log from s₀ c₀ lent place s b l c at buf filled
-  pub stays : passes_at K s c log at (first_at log at 10) ≡ false → paused K s c (length lent - filled) (pieces log at) ≡ stopped s c (stop_at log at n) (pieces log at)
-  pub stands : (n ≡ 11 → ⊥) → passes_at K s c log at (first_at log at 10) ≡ false
+-- a run that leaves where a line starts, and why
+pub record Leaves (K : Table) (log : List ℕ) (from : ℕ) (start : Going) (lent : List ℕ) (place : ℕ) (g : Going) (at : ℕ) (buf : List ℕ) (filled : ℕ) (w : Stop) : Type 0 where
+  pub here : Stands K log from g at
+  pub rows : Rows lent place buf filled
+  pub rest : telling rows.text (stopped g.state g.tally w (pieces log at)) ≡ paused K start.state start.tally (length lent - place) (pieces log from)
+  pub onward : T (is_closed w) → from < at
+  pub at_row : T (is_row w) → AtRow log at
 
 -- rows told before nothing
 telling_none : (text : List ℕ) (s : State) (c : Tally) (w : Stop) (ps : List (List ℕ)) → telling text (stopped s c w ps) ≡ played_to text s c w ps
 telling_none text s c w ps = ap (λ l. played_to l s c w ps) (append-nil text)
-
-module _ {K : Table} {log : List ℕ} {from : ℕ} {s : State} {b l : List ℕ} {c : Tally} {at : ℕ} (H : Stands K log from s b l c at) where
-  pub busy_sized : most_acts ≡ length b
-  busy_sized = sym (ap length H.busy ∙ length-map s.acts busy_of ∙ H.sound.shape.acts)
-
-  pub listed_sized : most_acts ≡ length l
-  listed_sized = sym (ap length H.listed ∙ length-map s.acts listed_of ∙ H.sound.shape.acts)
 
 -- the buffer keeps its length
 pub rows_kept : {lent buf : List ℕ} {place filled : ℕ} → Rows lent place buf filled → length buf ≡ length lent
@@ -98,150 +91,37 @@ rows_kept {lent} {place = place} R = ap length R.bytes ∙ length-sets lent plac
 rows_more : {lent buf : List ℕ} {place end : ℕ} (R : Rows lent place buf end) (row : List ℕ) → sets buf end row ≡ sets lent place (R.text ++ row)
 rows_more {lent} {place = place} R row = rw (R.bytes, R.filled) (sym (sets_append lent place R.text row))
 
--- a run that leaves where a line starts, and why
-pub record Leaves (K : Table) (log : List ℕ) (from : ℕ) (s₀ : State) (c₀ : Tally) (lent : List ℕ) (place : ℕ) (s : State) (b l : List ℕ) (c : Tally) (at : ℕ) (buf : List ℕ) (filled : ℕ) (w : Stop) : Type 0 where
-  pub here : Stands K log from s b l c at
-  pub rows : Rows lent place buf filled
-  pub rest : telling rows.text (stopped s c w (pieces log at)) ≡ paused K s₀ c₀ (length lent - place) (pieces log from)
-  pub onward : T (is_closed w) → from < at
-  pub at_row : T (is_row w) → AtRow log at
+-- there is room for what a step counts
+counted_roomy : (x : Step) (v : Verdict) (c : Tally) {n m : ℕ} → Roomy c n → m < n → Roomy (counted x v c) m
+counted_roomy x v c R h = record {
+  lines = omega (arith, R.lines);
+  opened = omega (arith, R.opened, opens_most x);
+  kept = omega (arith, R.kept, keeps_most v);
+  dropped = omega (arith, R.dropped, drops_most v);
+  since = omega (arith, R.since, since_most x c.since);
+}
+  where
+    opens_most : (x : Step) → opens x ≤ 1
+    opens_most (Wait d) = omega arith
+    opens_most (Sm t n r) = omega arith
+    opens_most (OfTask t k) = omega arith
+    opens_most (OfAct a k) = omega arith
 
--- what it then answers
-pub run_answers : {K : Table} {log : List ℕ} {from : ℕ} {g : Going} {lent : List ℕ} {place : ℕ} {s : State} {b l : List ℕ} {c : Tally} {at : ℕ} {buf : List ℕ} {filled : ℕ} {w : Stop}
-    → Leaves K log from g.state g.tally lent place s b l c at buf filled w → {r : Ran} → r ≡ ran_of s b l c at filled w → Pauses K log from g lent place r buf
-run_answers {K} {log} {from} {g} {lent} {place} {s} {b} {l} {c} {at} {buf} {filled} {w} L q =
-    let H = L.here in
-    let R = L.rows in
-    let p : played_to R.text s c w (pieces log at) ≡ paused K g.state g.tally (length lent - place) (pieces log from) = sym (telling_none R.text s c w (pieces log at)) ∙ L.rest in
-    let room : length lent - (place + length R.text) ≡ length lent - place - length R.text = omega arith in
-    subst⁻¹ (λ r. Pauses K log from g lent place r buf) q (record {
-      runs = record {
-        text = R.text;
-        played = rw room (ap (played_on K (length lent - place)) p ∙ sym (plays_on K (pieces log from) g.state g.tally (length lent - place)));
-        fits = R.fits;
-        filled = R.filled;
-        bytes = R.bytes;
-        within = H.onward;
-        inside = H.within;
-        at_row = L.at_row;
-        onward = L.onward;
-        ready = record { sound = of_sound K s H.sound; busy = H.busy; listed = H.listed };
-        roomy = H.roomy;
-      };
-      paused = p;
-    })
+    since_most : (x : Step) (k : ℕ) → pick (is_wait x) 0 (k + 1) ≤ k + 1
+    since_most (Wait d) k = omega arith
+    since_most (Sm t n r) k = omega arith
+    since_most (OfTask t i) k = omega arith
+    since_most (OfAct a i) k = omega arith
 
--- A run that is taken up again where it had come to: what it comes to from there, it comes to from the start.
-module _ {K : Table} {log : List ℕ} {from : ℕ} {s₀ : State} {c₀ : Tally} {lent : List ℕ} {place : ℕ} {s₁ : State} {b₁ l₁ : List ℕ} {c₁ : Tally} {at₁ : ℕ} {buf₁ : List ℕ} {filled₁ : ℕ}
-    (O : Plays K log from s₀ c₀ lent place s₁ b₁ l₁ c₁ at₁ buf₁ filled₁) where
-  size_kept : length buf₁ ≡ length lent
-  size_kept = rows_kept O.rows
+    keeps_most : (v : Verdict) → keeps_one v ≤ 1
+    keeps_most none = omega arith
+    keeps_most (kept r) = omega arith
+    keeps_most dropped = omega arith
 
-  -- before it goes on
-  pub taken_up : {n : ℕ} → n ≡ 0 → Continues K log at₁ s₁ c₁ buf₁ filled₁ s₁ b₁ l₁ c₁ at₁ buf₁ filled₁ n
-  taken_up z =
-      let H = O.here in
-      record {
-        plays = record {
-          here = record { within = H.within; onward = omega arith; sound = H.sound; busy = H.busy; listed = H.listed; roomy = H.roomy };
-          rows = record { text = []; fits = omega (arith, O.rows.fits, O.rows.filled, size_kept); filled = omega arith; bytes = refl };
-          rest = refl;
-        };
-        none = z;
-      }
-
-  module _ {buf : List ℕ} {filled : ℕ} (R : Rows buf₁ filled₁ buf filled) where
-    abbrev rows_joined : Rows lent place buf filled
-    rows_joined =
-        let n = length-append O.rows.text R.text in
-        record {
-          text = O.rows.text ++ R.text;
-          fits = omega (arith, R.fits, O.rows.filled, size_kept);
-          filled = omega (arith, R.filled, O.rows.filled);
-          bytes = R.bytes ∙ rows_more O.rows R.text;
-        }
-
-    rest_joined : (p : Played) → telling R.text p ≡ paused K s₁ c₁ (length buf₁ - filled₁) (pieces log at₁) → telling (O.rows.text ++ R.text) p ≡ paused K s₀ c₀ (length lent - place) (pieces log from)
-    rest_joined p e = sym (telling_more O.rows.text R.text p) ∙ ap (telling O.rows.text) (e ∙ rw size_kept) ∙ O.rest
-
-  module _ {s : State} {b l : List ℕ} {c : Tally} {at : ℕ} where
-    stands_joined : Stands K log at₁ s b l c at → Stands K log from s b l c at
-    stands_joined H = record { within = H.within; onward = omega (arith, H.onward, O.here.onward); sound = H.sound; busy = H.busy; listed = H.listed; roomy = H.roomy }
-
-    pub plays_joined : {buf : List ℕ} {filled : ℕ} → Plays K log at₁ s₁ c₁ buf₁ filled₁ s b l c at buf filled → Plays K log from s₀ c₀ lent place s b l c at buf filled
-    plays_joined {filled = filled} Z = record { here = stands_joined Z.here; rows = rows_joined Z.rows; rest = rest_joined Z.rows _ (rw (← size_kept) Z.rest) }
-
-    pub halts_joined : {buf : List ℕ} {filled n : ℕ} → Halts K log at₁ s₁ c₁ buf₁ filled₁ s b l c at buf filled n → Halts K log from s₀ c₀ lent place s b l c at buf filled n
-    halts_joined H = record { plays = plays_joined H.plays; stays = λ y. rw (← size_kept) (H.stays y); stands = H.stands }
-
-    pub leaves_joined : {buf : List ℕ} {filled : ℕ} {w : Stop} → Leaves K log at₁ s₁ c₁ buf₁ filled₁ s b l c at buf filled w → Leaves K log from s₀ c₀ lent place s b l c at buf filled w
-    leaves_joined L = record { here = stands_joined L.here; rows = rows_joined L.rows; rest = rest_joined L.rows _ L.rest; onward = λ t. omega (arith, L.onward t, O.here.onward); at_row = L.at_row }
-
-module _ (K : Table) (log : List ℕ) (from : ℕ) (g : Going) (lent : List ℕ) (place : ℕ) where
-  -- the start
-  pub run_starts : Shaped g.state → Ready K g → from ≤ length log → Roomy g.tally (length log - from) → place ≤ length lent
-      → Continues K log from g.state g.tally lent place g.state g.busy g.listed g.tally from lent place 0
-  run_starts h R l m p = record {
-    plays = record { here = record { within = l; onward = omega arith; sound = sound_of K g.state h R.sound; busy = R.busy; listed = R.listed; roomy = m }; rows = record { text = []; fits = omega arith; filled = omega arith; bytes = refl }; rest = refl };
-    none = refl;
-  }
-
-  module _ {s : State} {b l : List ℕ} {c : Tally} {at : ℕ} {buf : List ℕ} {filled : ℕ} where
-    -- at the log's end
-    pub halts_end : Plays K log from g.state g.tally lent place s b l c at buf filled → length log ≤ at → {n m : ℕ} → n ≡ m → m ≡ 0
-        → Halts K log from g.state g.tally lent place s b l c at buf filled n
-    halts_end Z h e z = record {
-      plays = Z;
-      stays = λ y. at_end_lem K s c (length lent - filled) log at h ∙ rw (e, z);
-      stands = λ y. end_stays K s c log at h Z.here.within;
-    }
-
-    -- at a line that is no step
-    pub halts_unread : Plays K log from g.state g.tally lent place s b l c at buf filled → (e : ℕ) → at < length log → e ≡ first_at log at 10 → (x : Line) → x ≡ line_at log at e → x ≡ Bad → {n : ℕ} → n ≡ 11
-        → Halts K log from g.state g.tally lent place s b l c at buf filled n
-    halts_unread Z e h f x q i z = record {
-      plays = Z;
-      stays = λ y. at_unread K s c (length lent - filled) log at e h f (sym q ∙ i) (rw f y) ∙ rw (z, f);
-      stands = λ y. absurd (y z);
-    }
-
-    module _ {n : ℕ} (H : Halts K log from g.state g.tally lent place s b l c at buf filled n) where
-      -- it leaves there where no row goes by
-      pub run_leaves : passes_at K s c log at (first_at log at 10) ≡ false → {w : Stop} → w ≡ stop_at log at n → Leaves K log from g.state g.tally lent place s b l c at buf filled w
-      run_leaves y q =
-          let Z = H.plays in
-          subst⁻¹ (Leaves K log from g.state g.tally lent place s b l c at buf filled) q (record {
-            here = Z.here;
-            rows = Z.rows;
-            rest = ap (telling Z.rows.text) (sym (H.stays y)) ∙ Z.rest;
-            onward = stop_unclosed log at n;
-            at_row = row_there log at n Z.here.within;
-          })
-
-      -- and goes on behind a row that goes by
-      pub run_passes : passes_at K s c log at (first_at log at 10) ≡ true → {p : ℕ} → p ≡ first_at log at 10 → {m : ℕ} → m ≡ 0 → {d : Tally} → d ≡ after_row c
-          → Continues K log from g.state g.tally lent place s b l d (p + 1) buf filled m
-      run_passes y f z e =
-          let Z = H.plays in
-          let S = Z.here in
-          let inside : at < length log = order at (length log) (λ l. l) (λ l. absurd (false_true (sym (end_stays K s c log at l S.within) ∙ y))) in
-          let q = at_passed K s c (length lent - filled) log at _ inside refl y in
-          let o = part_starts log at _ 10 S.within refl in
-          record {
-            none = z;
-            plays = record {
-              here = record {
-                within = omega (arith, f, q.0);
-                onward = omega (arith, f, o, S.onward);
-                sound = S.sound;
-                busy = S.busy;
-                listed = S.listed;
-                roomy = rw e (row_roomy c _ S.roomy _ (omega (arith, f, o, q.0)));
-              };
-              rows = Z.rows;
-              rest = ap (telling Z.rows.text) (rw (e, f) (sym q.1)) ∙ Z.rest;
-            };
-          }
+    drops_most : (v : Verdict) → drops v ≤ 1
+    drops_most none = omega arith
+    drops_most (kept r) = omega arith
+    drops_most dropped = omega arith
 
 -- what an accepted step comes to, by its verdict as the code has it
 module _ (s : State) (c : Tally) (room : ℕ) (ls : List (List ℕ)) (go : ℕ → Played) where
@@ -256,183 +136,194 @@ module _ (s : State) (c : Tally) (room : ℕ) (ls : List (List ℕ)) (go : ℕ �
   on_kept_lem (kept r) k e = let q : cycle_of r ≡ k = cc in ap (λ k. on_kept k s c room ls go) q
   on_kept_lem dropped k e = let z : ◌≡◌ {A = ℕ} 0 1 = cc in absurd (omega arith)
 
--- the values of a turn: what the run was given, what it has reached, the place of the next newline, and the step read
-pub record Scene : Type 0 where
-  pub rows : List ℕ
-  pub index : List ℕ
-  pub log : List ℕ
-  pub from : ℕ
-  pub start : Going
-  pub lent : List ℕ
-  pub place : ℕ
-  pub state : State
-  pub busy : List ℕ
-  pub listed : List ℕ
-  pub tally : Tally
-  pub at : ℕ
-  pub buf : List ℕ
-  pub filled : ℕ
-  pub newline : ℕ
-  pub step : Step
+-- a kept cycle's row is written where it has room
+module _ {buf out : List ℕ} {at end : ℕ} (c : Cycle) (p : Put buf at (cycle_text c) end out) where
+  pub told_none : end ≡ at → (length buf < at + length (cycle_text c)) × (out ≡ buf)
+  told_none z =
+      let short : length buf < at + length (cycle_text c) = order (length buf) (at + length (cycle_text c)) (λ l. l) (λ l. absurd (omega (arith, (put_fits l p).0, row_some c))) in
+      (short, (put_short short p).1)
 
-abbrev pub table : Scene → Table
-table σ = table_in σ.rows σ.index
+  pub told_some : (end ≡ at → ⊥) → (at + length (cycle_text c) ≤ length buf) × (end ≡ at + length (cycle_text c)) × (out ≡ sets buf at (cycle_text c))
+  told_some n =
+      let fit : at + length (cycle_text c) ≤ length buf = order (length buf) (at + length (cycle_text c)) (λ l. absurd (n (put_short l p).0)) (λ l. l) in
+      let u = put_fits fit p in
+      (fit, u.0, u.1)
 
--- the run has come to these values, goes on with them, and stops
-abbrev ComesTo : Scene → State → List ℕ → List ℕ → Tally → ℕ → List ℕ → ℕ → Type 0
-ComesTo σ w b l d at buf filled = Plays (table σ) σ.log σ.from σ.start.state σ.start.tally σ.lent σ.place w b l d at buf filled
-
-abbrev pub StopsAs : Scene → ℕ → Type 0
-StopsAs σ n = Halts (table σ) σ.log σ.from σ.start.state σ.start.tally σ.lent σ.place σ.state σ.busy σ.listed σ.tally σ.at σ.buf σ.filled n
-
--- what all lines come to from the start, the room that is left, and the lines behind the next newline
-abbrev whole : Scene → Played
-whole σ = paused (table σ) σ.start.state σ.start.tally (length σ.lent - σ.place) (pieces σ.log σ.from)
-
-abbrev left : Scene → ℕ
-left σ = length σ.lent - σ.filled
-
-abbrev lines_after : Scene → List (List ℕ)
-lines_after σ = pieces σ.log (σ.newline + 1)
-
--- the verdict that its step gives
-abbrev pub given : Scene → Verdict
-given σ = verdict (table σ) σ.state σ.step
-
--- a turn of the loop at a step's line
-pub record Turn (σ : Scene) : Type 0 where
-  pub prepared : Prepared σ.rows σ.index
-  pub plays : ComesTo σ σ.state σ.busy σ.listed σ.tally σ.at σ.buf σ.filled
-  pub inside : σ.at < length σ.log
-  pub ends : σ.newline ≡ first_at σ.log σ.at 10
-  pub line : line_at σ.log σ.at σ.newline ≡ Is σ.step
-
-pub turn_is : {σ : Scene} → Prepared σ.rows σ.index → ComesTo σ σ.state σ.busy σ.listed σ.tally σ.at σ.buf σ.filled → σ.at < length σ.log
-    → σ.newline ≡ first_at σ.log σ.at 10 → (x : Line) → x ≡ line_at σ.log σ.at σ.newline → x ≡ Is σ.step → Turn σ
-turn_is P Z h f x q i = record { prepared = P; plays = Z; inside = h; ends = f; line = sym q ∙ i }
-
--- the step is accepted: what stands behind it, and its verdict
-pub record Goes (σ : Scene) (w : State) (b l : List ℕ) (d : Tally) (v : Ruling) : Type 0 where
-  pub turn : Turn σ
-  pub accepted : refusal (table σ) σ.state σ.step ≡ 0
-  pub state : w ≡ next (table σ) σ.state σ.step
-  pub busy : b ≡ busy_in w
-  pub listed : l ≡ listed_in w
-  pub tally : d ≡ tallied (table σ) σ.state σ.step σ.tally
-  pub roomy : Roomy d (length σ.log - (σ.newline + 1))
-  pub ruling : v ≡ ruling_of (given σ)
-
-module _ {σ : Scene} (Z : Turn σ) where
-  pub here : Stands (table σ) σ.log σ.from σ.state σ.busy σ.listed σ.tally σ.at
-  here = Z.plays.here
-
-  pub sound_here : Sound (table σ) σ.state
-  sound_here = here.sound
-
-  pub formed_here : Formed (table σ)
-  formed_here = shape Z.prepared
-
-  -- the newline stands inside the log, and behind it fewer bytes are left
-  pub newline_inside : σ.newline < length σ.log
-  newline_inside = step_ends (table σ) σ.state σ.tally (left σ) σ.log σ.at σ.newline Z.inside Z.ends σ.step Z.line
-
-  onward : σ.at ≤ σ.newline
-  onward = part_starts σ.log σ.at σ.newline 10 here.within Z.ends
-
-  pub less_left : length σ.log - (σ.newline + 1) < length σ.log - σ.at
-  less_left = omega (arith, newline_inside, onward)
-
-  -- there is room to count one more step
-  pub room_for_one : Roomy σ.tally 1
-  room_for_one = roomy_one σ.tally _ here.roomy (omega (arith, Z.inside))
-
-  -- the rows written so far
-  abbrev rows_here : Rows σ.lent σ.place σ.buf σ.filled
-  rows_here = Z.plays.rows
-
-  paused_here : paused (table σ) σ.state σ.tally (left σ) (pieces σ.log σ.at) ≡ on_step (table σ) σ.state σ.tally (left σ) σ.step (pieces σ.log σ.at) (lines_after σ) (λ w d n. paused (table σ) w d n (lines_after σ))
-  paused_here = at_step (table σ) σ.state σ.tally (left σ) σ.log σ.at σ.newline Z.inside Z.ends σ.step Z.line
-
-  played_here : whole σ ≡ telling rows_here.text (on_step (table σ) σ.state σ.tally (left σ) σ.step (pieces σ.log σ.at) (lines_after σ) (λ w d n. paused (table σ) w d n (lines_after σ)))
-  played_here = sym Z.plays.rest ∙ ap (telling rows_here.text) paused_here
-
-  -- the step is refused
-  pub turn_stops : {n : ℕ} → n ≡ refusal (table σ) σ.state σ.step → (n ≡ 0 → ⊥) → {m : ℕ} → m ≡ n → StopsAs σ m
-  turn_stops {n} q z i =
-      let no = step_stays (table σ) σ.state σ.tally σ.log σ.at σ.newline σ.step Z.line in
-      let h : on_step (table σ) σ.state σ.tally (left σ) σ.step (pieces σ.log σ.at) (lines_after σ) (λ w d n. paused (table σ) w d n (lines_after σ)) ≡ stopped σ.state σ.tally (Refused n) (pieces σ.log σ.at) = rw (← q, ne_eqb n 0 z) in
-      record {
-        plays = Z.plays;
-        stays = λ y. paused_here ∙ h ∙ rw (i, ← stop_step σ.log σ.at n z σ.newline Z.ends σ.step Z.line);
-        stands = λ y. rw (← Z.ends) no;
-      }
-
-module _ {σ : Scene} {w : State} {b l : List ℕ} {d : Tally} {v : Ruling} (G : Goes σ w b l d v) where
-  after : Stands (table σ) σ.log σ.from w b l d (σ.newline + 1)
-  after = record {
-    within = omega (arith, newline_inside G.turn);
-    onward = omega (arith, (here G.turn).onward, onward G.turn);
-    sound = subst⁻¹ (Sound (table σ)) G.state (step_keeps (table σ) (formed_here G.turn) σ.state (sound_here G.turn) σ.step G.accepted);
-    busy = G.busy;
-    listed = G.listed;
-    roomy = G.roomy;
+module _ {K : Table} {log : List ℕ} {from : ℕ} {start : Going} {lent : List ℕ} {place : ℕ} where
+  -- the start
+  pub run_starts : length start.state.tasks ≡ most_tasks → length start.state.acts ≡ most_acts → Ready K start → from ≤ length log → Roomy start.tally (length log - from) → place ≤ length lent
+      → Plays K log from start lent place start from lent place
+  run_starts t a R l m p = record {
+    here = record { within = l; onward = omega arith; sound = sound_of K start.state (record { tasks = t; acts = a }) R.sound; busy = R.busy; listed = R.listed; roomy = m };
+    rows = record { text = []; fits = omega arith; filled = omega arith; bytes = refl };
+    rest = refl;
   }
 
-  abbrev rows : Rows σ.lent σ.place σ.buf σ.filled
-  rows = rows_here G.turn
-
-  played_after : whole σ ≡ telling rows.text (on_verdict (given σ) w d (left σ) (lines_after σ) (λ n. paused (table σ) w d n (lines_after σ)))
-  played_after = played_here G.turn ∙ rw (G.accepted, G.state, G.tally)
-
-  -- no cycle is kept
-  pub turn_passed : ((k : Cycle) → v ≡ Kept k → ⊥) → {n : ℕ} → n ≡ 0 → Continues (table σ) σ.log σ.from σ.start.state σ.start.tally σ.lent σ.place w b l d (σ.newline + 1) σ.buf σ.filled n
-  turn_passed h z = record { none = z; plays = record { here = after; rows = rows; rest = sym (played_after ∙ ap (telling rows.text) (on_passed w d _ _ _ (given σ) (λ k e. h k (G.ruling ∙ e)))) } }
-
-  -- a cycle is kept, and its row asks for room
-  module _ (k : Cycle) (i : v ≡ Kept k) (more : ℕ) (buf : List ℕ) (p : Put σ.buf σ.filled (cycle_text k) more buf) where
-    played_kept : whole σ ≡ telling rows.text (on_kept k w d (left σ) (lines_after σ) (λ n. paused (table σ) w d n (lines_after σ)))
-    played_kept = played_after ∙ ap (telling rows.text) (on_kept_lem w d _ _ _ (given σ) k (sym G.ruling ∙ i))
-
-    size : length σ.buf ≡ length σ.lent
-    size = rows_kept rows
-
-    -- the buffer keeps its length
-    pub turn_kept : length buf ≡ length σ.lent
-    turn_kept = put_length p ∙ size
-
-    -- it has none
-    pub turn_full : more ≡ σ.filled → Leaves (table σ) σ.log σ.from σ.start.state σ.start.tally σ.lent σ.place w b l d (σ.newline + 1) buf σ.filled (Closed k)
-    turn_full e =
-        let short : length σ.buf < σ.filled + length (cycle_text k) =
-        order (length σ.buf) (σ.filled + length (cycle_text k)) (λ l. l) (λ l. absurd (omega (arith, (put_fits l p).0, row_some k))) in
-        let lack : left σ < length (cycle_text k) = omega (arith, size, rows.fits, rows.filled) in
+  module _ {g : Going} {at : ℕ} {buf : List ℕ} {filled : ℕ} where
+    -- what a run answers that leaves
+    pub run_answers : {w : Stop} → Leaves K log from start lent place g at buf filled w → Pauses K log from start lent place (record { going = g; at = at; filled = filled; stop = w }) buf
+    run_answers {w} L =
+        let H = L.here in
+        let R = L.rows in
+        let p : played_to R.text g.state g.tally w (pieces log at) ≡ paused K start.state start.tally (length lent - place) (pieces log from) = sym (telling_none R.text g.state g.tally w (pieces log at)) ∙ L.rest in
+        let room : length lent - (place + length R.text) ≡ length lent - place - length R.text = omega arith in
         record {
-          here = after;
-          rows = record { text = rows.text; fits = rows.fits; filled = rows.filled; bytes = (put_short short p).1 ∙ rows.bytes };
-          rest = sym (played_kept ∙ rw (lt-leb _ _ lack));
-          onward = λ t. omega (arith, (here G.turn).onward, onward G.turn);
-          at_row = λ t. absurd t;
-        }
-
-    -- it is written, and the run goes on behind it
-    pub turn_told : (more ≡ σ.filled → ⊥) → {m : ℕ} → m ≡ 0 → Continues (table σ) σ.log σ.from σ.start.state σ.start.tally σ.lent σ.place w b l d (σ.newline + 1) buf more m
-    turn_told n z =
-        let fit : σ.filled + length (cycle_text k) ≤ length σ.buf =
-        order (length σ.buf) (σ.filled + length (cycle_text k)) (λ l. absurd (n (put_short l p).0)) (λ l. l) in
-        let u = put_fits fit p in
-        let t = length-append rows.text (cycle_text k) in
-        let q : left σ - length (cycle_text k) ≡ length σ.lent - more = omega (arith, u.0) in
-        let room : length (cycle_text k) ≤ left σ = omega (arith, size) in
-        record {
-          none = z;
-          plays = record {
-            here = after;
-            rows = record {
-              text = rows.text ++ cycle_text k;
-              fits = omega (arith, rows.filled, size);
-              filled = omega (arith, rows.filled, u.0);
-              bytes = u.1 ∙ rows_more rows (cycle_text k);
-            };
-            rest = sym (telling_more rows.text (cycle_text k) _) ∙ sym (played_kept ∙ rw (le-leb _ _ room, q));
+          runs = record {
+            text = R.text;
+            played = rw room (ap (played_on K (length lent - place)) p ∙ sym (plays_on K (pieces log from) start.state start.tally (length lent - place)));
+            fits = R.fits;
+            filled = R.filled;
+            bytes = R.bytes;
+            within = H.onward;
+            inside = H.within;
+            at_row = L.at_row;
+            onward = L.onward;
+            ready = record { sound = of_sound K g.state H.sound; busy = H.busy; listed = H.listed };
+            roomy = H.roomy;
           };
+          paused = p;
         }
+
+    module _ (P : Plays K log from start lent place g at buf filled) where
+      -- it leaves at a line that comes to so much
+      leaves_at : {w : Stop} → paused K g.state g.tally (length lent - filled) (pieces log at) ≡ stopped g.state g.tally w (pieces log at) → (T (is_closed w) → from < at) → (T (is_row w) → AtRow log at)
+          → Leaves K log from start lent place g at buf filled w
+      leaves_at e o r = record { here = P.here; rows = P.rows; rest = ap (telling P.rows.text) (sym e) ∙ P.rest; onward = o; at_row = r }
+
+      -- at the log's end
+      pub run_ends : length log ≤ at → Leaves K log from start lent place g at buf filled End
+      run_ends h = leaves_at (at_end_lem K g.state g.tally (length lent - filled) log at h) (λ t. absurd t) (λ t. absurd t)
+
+      -- a turn of the loop, at a line with the next newline at e
+      module _ (h : at < length log) {e : ℕ} (f : e ≡ first_at log at 10) where
+        -- a step finds what it needs
+        pub step_finds : Finds K g
+        step_finds = record {
+          ready = record { sound = of_sound K g.state P.here.sound; busy = P.here.busy; listed = P.here.listed };
+          roomy = roomy_one g.tally _ P.here.roomy (omega arith);
+          tasks = P.here.sound.shape.tasks;
+          acts = P.here.sound.shape.acts;
+        }
+
+        -- at a line that is no step, it leaves where no row goes by
+        pub unread_leaves : {l : Option Step} → l ≡ line_at log at e → l ≡ None → passes_at K g.state g.tally log at (first_at log at 10) ≡ false → {w : Stop} → w ≡ row_or log at e 11 → Leaves K log from start lent place g at buf filled w
+        unread_leaves q i y {w} z =
+            let p : passes_at K g.state g.tally log at e ≡ false = rw f y in
+            leaves_at (at_unread K g.state g.tally (length lent - filled) log at e h f (sym q ∙ i) p ∙ rw z refl) (λ t. row_unclosed log at e 11 (rw z at t)) (λ t. row_there log at e 11 P.here.within f (rw z at t))
+
+        -- one that goes by has its newline in the log
+        pub row_inside : passes_at K g.state g.tally log at (first_at log at 10) ≡ true → {p : ℕ} → p ≡ first_at log at 10 → p < length log
+        row_inside y q = omega (arith, (at_passed K g.state g.tally (length lent - filled) log at _ h refl y).0)
+
+        -- and the run goes on behind it
+        pub row_passes : (passes_at K g.state g.tally log at (first_at log at 10) ≡ true) → {p : ℕ} → p ≡ first_at log at 10 → {d : Tally} → d ≡ after_row g.tally
+            → Plays K log from start lent place (record { state = g.state; busy = g.busy; listed = g.listed; tally = d }) (p + 1) buf filled
+        row_passes y {p} q {d} z =
+            let a = at_passed K g.state g.tally (length lent - filled) log at _ h refl y in
+            let o = part_starts log at _ 10 P.here.within refl in
+            record {
+              here = record {
+                within = omega (arith, q, a.0);
+                onward = omega (arith, q, o, P.here.onward);
+                sound = P.here.sound;
+                busy = P.here.busy;
+                listed = P.here.listed;
+                roomy = rw z (row_roomy g.tally _ P.here.roomy _ (omega (arith, q, o, a.0)));
+              };
+              rows = P.rows;
+              rest = ap (telling P.rows.text) (rw (z, q) (sym a.1)) ∙ P.rest;
+            }
+
+        -- at a step
+        module _ {x : Step} {l : Option Step} (q : l ≡ line_at log at e) (i : l ≡ Some x) where
+          line_is : line_at log at e ≡ Some x
+          line_is = sym q ∙ i
+
+          ends : e < length log
+          ends = step_ends K g.state g.tally (length lent - filled) log at e h f x line_is
+
+          onward : at ≤ e
+          onward = part_starts log at e 10 P.here.within f
+
+          pub newline_inside : e < length log
+          newline_inside = ends
+
+          pub less_left : length log - (e + 1) < length log - at
+          less_left = omega (arith, ends, onward)
+
+          -- a line says no more ticks
+          pub step_small : Small x
+          step_small =
+              let n : e ≡ length log → ⊥ = λ z. omega (arith, ends) in
+              small x (rw (ne_eqb e (length log) n) at line_is)
+            where
+              small : (x : Step) → read_step set_digits (take (e - at) (drop at log)) ≡ Some x → Small x
+              small (Wait d) j = omega (arith, (read_step_bounds set_digits _ (Wait d) j).1)
+              small (Sm t n r) j = tt
+              small (OfTask t k) j = tt
+              small (OfAct a k) j = tt
+
+          paused_here : paused K g.state g.tally (length lent - filled) (pieces log at) ≡ on_step K g.state g.tally (length lent - filled) x (pieces log at) (pieces log (e + 1)) (λ w d n. paused K w d n (pieces log (e + 1)))
+          paused_here = at_step K g.state g.tally (length lent - filled) log at e h f x line_is
+
+          -- it is refused
+          pub step_refused : {r : Refusal} {k : Going} → Refuses K g x r k → {n : ℕ} → n ≡ number_of r → Leaves K log from start lent place k at buf filled (Refused n)
+          step_refused {r} R {n} c =
+              let z : on_step K g.state g.tally (length lent - filled) x (pieces log at) (pieces log (e + 1)) (λ w d n. paused K w d n (pieces log (e + 1))) ≡ stopped g.state g.tally (Refused n) (pieces log at) = rw (← R.number, ne_eqb (number_of r) 0 (number_some r), c) in
+              subst⁻¹ (λ k. Leaves K log from start lent place k at buf filled (Refused n)) R.going (leaves_at (paused_here ∙ z) (λ t. absurd t) (λ t. absurd t))
+
+          -- it is accepted
+          module _ (F : Formed K) {v : Ruling} {k : Going} (A : Takes K g x v k) where
+            after : Stands K log from k (e + 1)
+            after = subst⁻¹ (λ k. Stands K log from k (e + 1)) A.going (record {
+              within = omega (arith, ends);
+              onward = omega (arith, P.here.onward, onward);
+              sound = step_keeps K F g.state P.here.sound x A.accepted;
+              busy = refl;
+              listed = refl;
+              roomy = counted_roomy x (verdict K g.state x) g.tally P.here.roomy less_left;
+            })
+
+            played_after : telling P.rows.text (on_verdict (verdict K g.state x) k.state k.tally (length lent - filled) (pieces log (e + 1)) (λ n. paused K k.state k.tally n (pieces log (e + 1)))) ≡ paused K start.state start.tally (length lent - place) (pieces log from)
+            played_after = ap (telling P.rows.text) (rw A.going (sym (paused_here ∙ rw A.accepted))) ∙ P.rest
+
+            -- no cycle is kept
+            pub step_passed : ((c : Cycle) → v ≡ Kept c → ⊥) → Plays K log from start lent place k (e + 1) buf filled
+            step_passed n = record { here = after; rows = P.rows; rest = ap (telling P.rows.text) (sym (on_passed k.state k.tally _ _ _ (verdict K g.state x) (λ c i. n c (A.ruling ∙ i)))) ∙ played_after }
+
+            -- a cycle is kept, and its row asks for room
+            module _ (c : Cycle) (j : v ≡ Kept c) where
+              played_kept : telling P.rows.text (on_kept c k.state k.tally (length lent - filled) (pieces log (e + 1)) (λ n. paused K k.state k.tally n (pieces log (e + 1)))) ≡ paused K start.state start.tally (length lent - place) (pieces log from)
+              played_kept = ap (telling P.rows.text) (sym (on_kept_lem k.state k.tally _ _ _ (verdict K g.state x) c (sym A.ruling ∙ j))) ∙ played_after
+
+              size : length buf ≡ length lent
+              size = rows_kept P.rows
+
+              -- it has none
+              pub step_full : {out : List ℕ} → (length buf < filled + length (cycle_text c)) × (out ≡ buf) → Leaves K log from start lent place k (e + 1) out filled (Closed c)
+              step_full t =
+                  let lack : length lent - filled < length (cycle_text c) = omega (arith, t.0, size, P.rows.fits, P.rows.filled) in
+                  record {
+                    here = after;
+                    rows = record { text = P.rows.text; fits = P.rows.fits; filled = P.rows.filled; bytes = t.1 ∙ P.rows.bytes };
+                    rest = rw (lt-leb _ _ lack) at played_kept;
+                    onward = λ t. omega (arith, P.here.onward, onward);
+                    at_row = λ t. absurd t;
+                  }
+
+              -- it is written, and the run goes on behind it
+              pub step_told : {more : ℕ} {out : List ℕ} → (filled + length (cycle_text c) ≤ length buf) × (more ≡ filled + length (cycle_text c)) × (out ≡ sets buf filled (cycle_text c)) → Plays K log from start lent place k (e + 1) out more
+              step_told {more} t =
+                  let n = length-append P.rows.text (cycle_text c) in
+                  let q : length lent - filled - length (cycle_text c) ≡ length lent - more = omega (arith, t.1) in
+                  let room : length (cycle_text c) ≤ length lent - filled = omega (arith, t.0, size) in
+                  record {
+                    here = after;
+                    rows = record {
+                      text = P.rows.text ++ cycle_text c;
+                      fits = omega (arith, P.rows.filled, t.0, size, n);
+                      filled = omega (arith, P.rows.filled, t.1, n);
+                      bytes = t.2 ∙ rows_more P.rows (cycle_text c);
+                    };
+                    rest = sym (telling_more P.rows.text (cycle_text c) _) ∙ (rw (le-leb _ _ room, q) at played_kept);
+                  }

@@ -1,121 +1,129 @@
--- A turn of the loop at a step of a task, `st` or `fm`, or of an activity.
-use Prim.Native.Nat.{ℕ}
+-- A step of a task, `st` or `fm`, or of an activity, as what a run carries takes it.
+use Prim.Native.Nat.{ℕ, ◌≤◌, ◌<◌}
 use mathlib.Core.Bool.{Bool}
 use mathlib.Core.List.{List}
 use mathlib.Core.Path.{◌≡◌, refl, ap, sym, ◌∙◌}
 use native.Mathlib.Omega.{arith}
 use borrow.Author.Tests.{lt-ltb, le-ltb}
-use lib.ListN.{set}
 use Rattle.text.proofs.Picks.{order}
+use Rattle.model.specs.Tables.{Table}
 use Rattle.model.specs.States.{task_at, act_at}
+use Rattle.model.specs.Refusals.{number_of}
+use Rattle.model.specs.declared.refusal.Refusal.{Refusal}
+use Rattle.model.specs.declared.refusal.Refusal.TheVariants.{NoStep, Unknown, NotAllowed, TooEarly, InConflict, StillEnabled, TooLate, PastCeiling, NotGiven, Unsound, NotReached}
 use Rattle.model.specs.Rules.{refusal, next, put_task, put_both}
 use Rattle.model.specs.Cycles.{verdict}
 use Rattle.model.specs.declared.State.{State}
 use Rattle.model.specs.declared.TaskStep.{TaskStep}
 use Rattle.model.specs.declared.ActStep.{ActStep}
 use Rattle.model.specs.declared.Step.TheVariants.{OfTask, OfAct}
-use Rattle.rules.proofs.Named.{row_own}
-use Rattle.rules.specs.Local.{told_task, local, naming, task_told, row_in, task_in}
-use Rattle.rules.specs.declared.TaskTold.{TaskTold}
-use Rattle.rules.specs.declared.Told.{Told}
-use Rattle.rules.proofs.Steps.{answered_task, answered, task_refusal_lem, task_unnamed, local_refusal, local_unnamed, task_next_lem, local_next}
-use Rattle.conflicts.specs.Busy.{busy_of, clear_for_by}
-use Rattle.conflicts.proofs.Busy.{clear_for_by_lem}
-use Rattle.managing.specs.Listed.{listed_of, empty_for_by}
-use Rattle.managing.proofs.Listed.{empty_for_by_lem}
 use Rattle.model.proofs.Rows.{map_set}
+use Rattle.prepared.specs.Prepared.{table_in}
+use Rattle.rules.specs.Local.{TaskTold, Told, told_task, local, naming, task_told, row_in, task_in}
+use Rattle.rules.proofs.Named.{row_own}
+use Rattle.rules.proofs.Steps.{answered_task, answered, task_refusal_lem, task_unnamed, local_refusal, local_unnamed, task_next_lem, local_next}
+use Rattle.conflicts.specs.Busy.{busy_of, busy_in, clear_for_by}
+use Rattle.conflicts.proofs.Busy.{clear_for_by_lem}
+use Rattle.managing.specs.Listed.{listed_of, listed_in, empty_for_by}
+use Rattle.managing.proofs.Listed.{empty_for_by_lem}
 use Rattle.tally.specs.Tallies.{ruling_of, ruling_by, after_step}
 use Rattle.tally.specs.declared.Tally.{Tally}
 use Rattle.tally.specs.declared.Ruling.{Ruling}
 use Rattle.tally.specs.declared.Ruling.TheVariants.{Open}
-use Rattle.tally.proofs.Tallying.{ruling_is, step_counts, step_roomy}
-use Rattle.engine.proofs.Runs.{Scene, table, Turn, Goes, given, here, sound_here, formed_here, less_left}
-use Rattle.engine.proofs.Naming.{Tasked, Named}
+use Rattle.tally.proofs.Tallying.{ruling_is, step_counts}
+use Rattle.engine.specs.Starts.{going_at}
+use Rattle.engine.specs.Steps.{with_state, with_act, Takes, Refuses}
+use Rattle.engine.specs.declared.Going.{Going}
+use Rattle.engine.proofs.Finding.{Found, formed_there}
 
--- a turn at a step k of the task t, which reads row i; r is what it is told of that row's record
-pub record TaskSteps (σ : Scene) (t i : ℕ) (k : TaskStep) (r : TaskTold) : Type 0 where
-  pub tasked : Tasked σ i
-  pub step : σ.step ≡ OfTask t k
-  pub number : r.number ≡ refusal (table σ) σ.state σ.step
-  pub own : r.number ≡ 0 → i ≡ t
-  pub next : r.number ≡ 0 → put_task σ.state i r.task ≡ next (table σ) σ.state σ.step
+-- no refusal has the number 0
+pub number_some : (w : Refusal) → number_of w ≡ 0 → ⊥
+number_some NoStep z = omega arith
+number_some Unknown z = omega arith
+number_some NotAllowed z = omega arith
+number_some TooEarly z = omega arith
+number_some InConflict z = omega arith
+number_some StillEnabled z = omega arith
+number_some TooLate z = omega arith
+number_some PastCeiling z = omega arith
+number_some NotGiven z = omega arith
+number_some Unsound z = omega arith
+number_some NotReached z = omega arith
 
-pub turn_task : {σ : Scene} {i : ℕ} → Tasked σ i → {t nt : ℕ} → nt ≡ (table σ).ntasks → i ≡ row_in t nt → {k : TaskStep} → σ.step ≡ OfTask t k → (b : Bool) → b ≡ empty_for_by (table σ) σ.listed i k → {r : TaskTold} → r ≡ task_told (table σ) t k b (task_at σ.state i) → TaskSteps σ t i k r
-unfolding refusal next
-turn_task {σ} {i} N {t} {nt} q e {k} f b g {r} j =
-    order t (table σ).ntasks
-    (λ l.
-    let own : i ≡ t = e ∙ sym (row_own t nt (omega arith)) in
-    let told : r ≡ answered_task (table σ) σ.state t k = j ∙ rw (lt-ltb t (table σ).ntasks l, g, (here N.turn).listed, own, empty_for_by_lem (table σ) σ.state t k) in
-    record {
-      tasked = N;
-      step = f;
-      number = ap (λ r. r.number) told ∙ rw f (sym (task_refusal_lem (table σ) σ.state t k l));
-      own = λ z. own;
-      next = λ z. rw (own, told, f) (sym (task_next_lem (table σ) σ.state t k (ap (λ r. r.number) (sym told) ∙ z)));
-    })
-    (λ l.
-    let told : r ≡ told_task 12 (task_at σ.state i) = j ∙ rw (le-ltb t (table σ).ntasks l) in
-    record {
-      tasked = N;
-      step = f;
-      number = ap (λ r. r.number) told ∙ rw f (sym (task_unnamed (table σ) σ.state t k l));
-      own = λ z. absurd (let y : ◌≡◌ {A = ℕ} 12 0 = ap (λ r. r.number) (sym told) ∙ z in omega arith);
-      next = λ z. absurd (let y : ◌≡◌ {A = ℕ} 12 0 = ap (λ r. r.number) (sym told) ∙ z in omega arith);
-    })
+-- what is carried behind a step, part by part
+pub going_is : {s w : State} {b l : List ℕ} {c d : Tally} → w ≡ s → b ≡ busy_in s → l ≡ listed_in s → c ≡ d → record { state = w; busy = b; listed = l; tally = c } ≡ going_at s d
+going_is e f h k = λ i. record { state = e i; busy = f i; listed = h i; tally = k i }
 
-module _ {σ : Scene} {t i : ℕ} {k : TaskStep} {r : TaskTold} (L : TaskSteps σ t i k r) where
-  -- it is accepted, with the verdict v: its record is stored
-  pub task_goes : r.number ≡ 0 → {v : Ruling} → v ≡ ruling_by (table σ) i k σ.state.date (task_at σ.state i) → {w : State} → w ≡ put_task σ.state i r.task → {b l : List ℕ} → b ≡ σ.busy → l ≡ σ.listed → {d c : Tally} → d ≡ after_step σ.tally v → c ≡ d → {o : Ruling} → o ≡ v → Goes σ w b l c o
-  task_goes z {v = v} ev es eb el ed ec er =
-      let Z = L.tasked.turn in
-      let H = here Z in
-      let rules : v ≡ ruling_of (given σ) = ev ∙ rw (L.step, L.own z) (ruling_is (table σ) σ.state t k) in
-      record {
-        turn = Z;
-        accepted = sym L.number ∙ z;
-        state = es ∙ L.next z;
-        busy = eb ∙ H.busy ∙ rw es;
-        listed = el ∙ H.listed ∙ rw es;
-        tally = ec ∙ ed ∙ rw (rules, L.step) (step_counts (table σ) σ.state σ.tally (OfTask t k) refl refl);
-        roomy = rw (ec, ed) (step_roomy σ.tally _ H.roomy _ (less_left Z) v);
-        ruling = er ∙ rules;
-      }
+module _ {rows index : List ℕ} {g : Going} (F : Found rows index g) where
+  -- a step k of the task t, which reads row i, is told r of that row's record
+  module _ (t : ℕ) (k : TaskStep) {i n : ℕ} (q : n ≡ (table_in rows index).ntasks) (e : i ≡ row_in t n) {b : Bool} (f : b ≡ empty_for_by (table_in rows index) g.listed i k) {r : TaskTold} (j : r ≡ task_told (table_in rows index) t k b (task_at g.state i)) where
+    -- where there is such a task, row i is its own
+    there : t < (table_in rows index).ntasks → (i ≡ t) × (r ≡ answered_task (table_in rows index) g.state t k)
+    there l =
+        let own : i ≡ t = e ∙ sym (row_own t n (omega arith)) in
+        (own, j ∙ rw (lt-ltb t (table_in rows index).ntasks l, f, F.listed, own, empty_for_by_lem (table_in rows index) g.state t k))
 
--- a turn at a step k of the activity a, which touches the task t; r is what it is told of their records
-pub record Steps (σ : Scene) (t a : ℕ) (k : ActStep) (r : Told) : Type 0 where
-  pub named : Named σ a k
-  pub task : t ≡ task_in (table σ) a k
-  pub told : r ≡ answered (table σ) σ.state a k
+    missing : (table_in rows index).ntasks ≤ t → r ≡ told_task 12 (task_at g.state i)
+    missing l = j ∙ rw (le-ltb t (table_in rows index).ntasks l)
 
-pub turn_act : {σ : Scene} {a : ℕ} {k : ActStep} → Named σ a k → {t : ℕ} → t ≡ task_in (table σ) a k → (b : Bool) → b ≡ clear_for_by (table σ) σ.busy k (act_at σ.state a).place → {r : Told} → r ≡ local (table σ) a k b (task_at σ.state t) (act_at σ.state a) → Steps σ t a k r
-turn_act {σ} {a} {k} N q b i j =
-    let Z = N.turn in
-    record { named = N; task = q; told = j ∙ rw (i, q, (here Z).busy, clear_for_by_lem (table σ) (formed_here Z) σ.state (sound_here Z) a k) }
+    task_number : r.number ≡ refusal (table_in rows index) g.state (OfTask t k)
+    unfolding refusal
+    task_number =
+        order t (table_in rows index).ntasks
+        (λ l. ap (λ r. r.number) (there l).1 ∙ sym (task_refusal_lem (table_in rows index) g.state t k l))
+        (λ l. ap (λ r. r.number) (missing l) ∙ sym (task_unnamed (table_in rows index) g.state t k l))
 
-module _ {σ : Scene} {t a : ℕ} {k : ActStep} {r : Told} (L : Steps σ t a k r) where
-  -- its number is its refusal
-  pub act_number : r.number ≡ refusal (table σ) σ.state σ.step
-  unfolding refusal
-  act_number = ap (λ r. r.number) L.told ∙ rw L.named.step (sym (local_refusal (table σ) σ.state a k L.named.named))
+    pub task_refuses : {w : Refusal} → number_of w ≡ r.number → Refuses (table_in rows index) g (OfTask t k) w g
+    task_refuses z = record { number = z ∙ task_number; going = refl }
 
-  -- it is accepted: its records are stored, with what is kept of the activity's beside the state
-  pub act_goes : r.number ≡ 0 → {b l : ℕ} → b ≡ busy_of r.act → l ≡ listed_of r.act → {w : State} → w ≡ put_both σ.state t r.task a r.act → {e f : List ℕ} → e ≡ set σ.busy a b → f ≡ set σ.listed a l → {d c : Tally} → d ≡ after_step σ.tally Open → c ≡ d → {o : Ruling} → o ≡ Open → Goes σ w e f c o
-  unfolding next verdict
-  act_goes z {b} {l} eb el es e f ed ec er =
-      let Z = L.named.turn in
-      record {
-        turn = Z;
-        accepted = sym act_number ∙ z;
-        state = es ∙ rw (L.named.step, L.task, L.told) (sym (local_next (table σ) σ.state a k (ap (λ r. r.number) (sym L.told) ∙ z)));
-        busy = e ∙ rw (es, (here Z).busy, eb, map_set busy_of σ.state.acts a r.act);
-        listed = f ∙ rw (es, (here Z).listed, el, map_set listed_of σ.state.acts a r.act);
-        tally = ec ∙ ed ∙ rw L.named.step (step_counts (table σ) σ.state σ.tally (OfAct a k) refl refl);
-        roomy = rw (ec, ed) (step_roomy σ.tally _ (here Z).roomy _ (less_left Z) Open);
-        ruling = er ∙ rw L.named.step;
-      }
+    module _ (z : r.number ≡ 0) where
+      named : t < (table_in rows index).ntasks
+      named = order t (table_in rows index).ntasks (λ l. l) (λ l. absurd (let y : ◌≡◌ {A = ℕ} 12 0 = ap (λ r. r.number) (sym (missing l)) ∙ z in omega arith))
+
+      stored : put_task g.state i r.task ≡ next (table_in rows index) g.state (OfTask t k)
+      unfolding next
+      stored =
+          let w = there named in
+          rw (w.0, w.1) (sym (task_next_lem (table_in rows index) g.state t k (ap (λ r. r.number) (sym w.1) ∙ z)))
+
+      pub task_takes : {v : Ruling} → v ≡ ruling_by (table_in rows index) i k g.state.date (task_at g.state i) → {c : Tally} → c ≡ after_step g.tally v
+          → Takes (table_in rows index) g (OfTask t k) v (record { state = put_task g.state i r.task; busy = g.busy; listed = g.listed; tally = c })
+      task_takes {v} ev {c} ec =
+          let rules : v ≡ ruling_of (verdict (table_in rows index) g.state (OfTask t k)) = ev ∙ rw (there named).0 (ruling_is (table_in rows index) g.state t k) in
+          record {
+            accepted = sym task_number ∙ z;
+            ruling = rules;
+            going = going_is stored (F.busy ∙ ap busy_in stored) (F.listed ∙ ap listed_in stored) (ec ∙ rw rules (step_counts (table_in rows index) g.state g.tally (OfTask t k) refl refl));
+          }
+
+  -- a step k of the activity a that names rows and touches the task t is told r of their records
+  module _ (a : ℕ) (k : ActStep) (y : 0 ≡ naming (table_in rows index) a k) {t : ℕ} (q : t ≡ task_in (table_in rows index) a k) {b : Bool} (f : b ≡ clear_for_by (table_in rows index) g.busy k (act_at g.state a).place) {r : Told} (j : r ≡ local (table_in rows index) a k b (task_at g.state t) (act_at g.state a)) where
+    told : r ≡ answered (table_in rows index) g.state a k
+    told = j ∙ rw (f, q, F.busy, clear_for_by_lem (table_in rows index) (formed_there F) g.state F.sound a k)
+
+    act_number : r.number ≡ refusal (table_in rows index) g.state (OfAct a k)
+    unfolding refusal
+    act_number = ap (λ r. r.number) told ∙ sym (local_refusal (table_in rows index) g.state a k (sym y))
+
+    pub act_refuses : {w : Refusal} → number_of w ≡ r.number → Refuses (table_in rows index) g (OfAct a k) w g
+    act_refuses z = record { number = z ∙ act_number; going = refl }
+
+    module _ (z : r.number ≡ 0) where
+      both_stored : put_both g.state t r.task a r.act ≡ next (table_in rows index) g.state (OfAct a k)
+      unfolding next
+      both_stored = rw (q, told) (sym (local_next (table_in rows index) g.state a k (ap (λ r. r.number) (sym told) ∙ z)))
+
+      pub act_takes : {h : Going} → h ≡ with_act (with_state g (put_task g.state t r.task)) a r.act → {c : Tally} → c ≡ after_step h.tally Open
+          → Takes (table_in rows index) g (OfAct a k) Open (record { state = h.state; busy = h.busy; listed = h.listed; tally = c })
+      unfolding verdict
+      act_takes {h} eh {c} ec =
+          record {
+            accepted = sym act_number ∙ z;
+            ruling = refl;
+            going = going_is (rw eh both_stored) (rw (eh, F.busy) (sym (map_set busy_of g.state.acts a r.act) ∙ ap busy_in both_stored)) (rw (eh, F.listed) (sym (map_set listed_of g.state.acts a r.act) ∙ ap listed_in both_stored)) (ec ∙ rw eh (step_counts (table_in rows index) g.state g.tally (OfAct a k) refl refl));
+          }
 
 -- 11 or 12 of a step of an activity by what it names
-pub act_unnamed : {σ : Scene} → Turn σ → {a : ℕ} {k : ActStep} → σ.step ≡ OfAct a k → {n : ℕ} → n ≡ naming (table σ) a k → (n ≡ 0 → ⊥) → n ≡ refusal (table σ) σ.state σ.step
+pub act_unnamed : (K : Table) (g : Going) (a : ℕ) (k : ActStep) {w : Refusal} → number_of w ≡ naming K a k → Refuses K g (OfAct a k) w g
 unfolding refusal
-act_unnamed {σ} Z {a} {k} e q z = q ∙ rw e (sym (local_unnamed (table σ) σ.state a k (rw q at z)))
+act_unnamed K g a k {w} q = record { number = q ∙ sym (local_unnamed K g.state a k (λ z. number_some w (q ∙ z))); going = refl }

@@ -1,3 +1,4 @@
 pub mod Play
 pub mod Turns
 pub mod Starts
+pub mod Steps

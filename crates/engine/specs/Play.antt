@@ -1,6 +1,6 @@
 -- A log played by the rules, line after line, up to its end, the first refusal, or a kept cycle whose row has no room; the rows of the
 -- cycles kept before are told on the way, and each `state` row is taken where it stands.
-use Rattle.std.specs.Prelude.{ℕ, ◌+◌, ◌-◌, ◌≤◌, ◌<◌, Bool, true, false, List, [], ◌∷◌, ◌++◌, ◌≡◌, length, take, drop, T, leb, eqb}
+use Rattle.std.specs.Prelude.{ℕ, ◌+◌, ◌-◌, ◌≤◌, ◌<◌, Bool, true, false, List, [], ◌∷◌, ◌++◌, ◌≡◌, length, take, drop, T, leb, eqb, Option, Some, None}
 use Rattle.std.proofs.lemmas.List.Edits.{sets}
 use Rattle.text.specs.Parts.{pick, split_on, first_at}
 use Rattle.model.specs.Tests.{accepted}
@@ -10,8 +10,6 @@ use Rattle.model.specs.Rules.{refusal, next}
 use Rattle.model.specs.Cycles.{Verdict, none, kept, dropped, verdict}
 use Rattle.model.specs.declared.State.{State}
 use Rattle.model.specs.declared.Step.{Step}
-use Rattle.model.specs.declared.Line.{Line}
-use Rattle.model.specs.declared.Line.TheVariants as line
 use Rattle.report.specs.Rows.{cycle_of, cycle_text}
 use Rattle.report.specs.declared.Cycle.{Cycle}
 use Rattle.logs.specs.Lines.{set_digits, read_step}
@@ -79,9 +77,9 @@ abbrev pub on_row : State → Tally → ℕ → Resumed → List (List ℕ) → 
 on_row s c room r here go = pick (accepted r.number) (go r.state r.tally room) (stopped s c (Refused r.number) here)
 
 -- a line with its newline
-abbrev pub on_line : Table → State → Tally → ℕ → List ℕ → Line → List (List ℕ) → List (List ℕ) → (State → Tally → ℕ → Played) → Played
-on_line K s c room p line.Bad here rest go = pick (begins_row p) (on_row s c room (resumed K s c p) here go) (stopped s c (Refused 11) here)
-on_line K s c room p (line.Is x) here rest go = on_step K s c room x here rest go
+abbrev pub on_line : Table → State → Tally → ℕ → List ℕ → Option Step → List (List ℕ) → List (List ℕ) → (State → Tally → ℕ → Played) → Played
+on_line K s c room p None here rest go = pick (begins_row p) (on_row s c room (resumed K s c p) here go) (stopped s c (Refused 11) here)
+on_line K s c room p (Some x) here rest go = on_step K s c room x here rest go
 
 -- the lines of a log, with so much room for rows
 unfoldable pub played : Table → State → Tally → ℕ → List (List ℕ) → Played
@@ -94,19 +92,15 @@ unfoldable pub goes_by : Table → State → Tally → List ℕ → Bool
 goes_by K s c p = pick (begins_row p) (pick (eqb (lines_of c) 0) false (accepted (row_refusal K s p))) false
 
 -- a line with its newline where every other `state` row is left to the caller
-abbrev pub up_to_row : Table → State → Tally → ℕ → List ℕ → Line → List (List ℕ) → List (List ℕ) → (State → Tally → ℕ → Played) → Played
-up_to_row K s c room p line.Bad here rest go = pick (goes_by K s c p) (go s (after_row c) room) (stopped s c (pick (begins_row p) Row (Refused 11)) here)
-up_to_row K s c room p (line.Is x) here rest go = on_step K s c room x here rest go
+abbrev pub up_to_row : Table → State → Tally → ℕ → List ℕ → Option Step → List (List ℕ) → List (List ℕ) → (State → Tally → ℕ → Played) → Played
+up_to_row K s c room p None here rest go = pick (goes_by K s c p) (go s (after_row c) room) (stopped s c (pick (begins_row p) Row (Refused 11)) here)
+up_to_row K s c room p (Some x) here rest go = on_step K s c room x here rest go
 
 -- the lines of a log up to the first row that does not go by, with so much room for rows
 unfoldable pub paused : Table → State → Tally → ℕ → List (List ℕ) → Played
 paused K s c room [] = stopped s c End []
 paused K s c room (p ∷ []) = last_line s c p
 paused K s c room (p ∷ q ∷ ps) = up_to_row K s c room p (read_step set_digits p) (p ∷ q ∷ ps) (q ∷ ps) (λ w d n. paused K w d n (q ∷ ps))
-
--- a run as the code has it
-abbrev pub ran_of : State → List ℕ → List ℕ → Tally → ℕ → ℕ → Stop → Ran
-ran_of s busy listed c at filled w = record { going = record { state = s; busy = busy; listed = listed; tally = c }; at = at; filled = filled; stop = w }
 
 -- what is carried from run to run: a sound state, and beside it what follows from it
 pub record Ready (K : Table) (g : Going) : Type 0 where

@@ -18,12 +18,14 @@ use Rattle.model.specs.Tables.{Table}
 use Rattle.model.specs.Rows.{wellformed}
 use Rattle.model.specs.Sound.{sound}
 use Rattle.model.specs.declared.State.{State}
+use Rattle.model.specs.Refusals.{number_of}
+use Rattle.model.specs.declared.refusal.Refusal.{Refusal}
+use Rattle.model.specs.declared.refusal.Refusal.TheVariants.{NoStep, Unknown, NotAllowed, TooEarly, InConflict, StillEnabled, TooLate, PastCeiling, NotGiven, Unsound, NotReached}
 use Rattle.model.proofs.Soundness.{sound_of}
 use Rattle.logs.specs.Lines.{longest_row}
 use Rattle.fields.specs.Fields.{Part, part, none}
 use Rattle.prepared.specs.Prepared.{table_in, Prepared}
-use Rattle.saved.specs.Rows.{sets_within, row_line, row_text, refused, on_part, part_in, read_state}
-use Rattle.saved.specs.declared.Read.{Read}
+use Rattle.saved.specs.Rows.{Read, sets_within, row_line, row_text, refused, on_part, part_in, read_state}
 use Rattle.saved.proofs.Lengths.{row_fits}
 use Rattle.entries.specs.Entries.{row_state, row_number, row_refusal, sound_row}
 use Rattle.entries.proofs.Owning.{row_of}
@@ -31,6 +33,20 @@ use Rattle.entries.proofs.Owning.{row_of}
 -- a list has as many elements as its image
 pub rows_whole : {A B : Type 0} (f : A → B) (l : List A) (n : ℕ) → length (map f l) ≡ n → length l ≡ n
 rows_whole f l n e = sym (length-map l f) ∙ e
+
+-- no refusal has the number 0
+pub refusal_some : (r : Refusal) → number_of r ≡ 0 → ⊥
+refusal_some NoStep e = omega arith
+refusal_some Unknown e = omega arith
+refusal_some NotAllowed e = omega arith
+refusal_some TooEarly e = omega arith
+refusal_some InConflict e = omega arith
+refusal_some StillEnabled e = omega arith
+refusal_some TooLate e = omega arith
+refusal_some PastCeiling e = omega arith
+refusal_some NotGiven e = omega arith
+refusal_some Unsound e = omega arith
+refusal_some NotReached e = omega arith
 
 -- a row that does not read, or that no state is, has the fresh state
 refused_whole : (K : Table) (p : List ℕ) → ((read_state K p).number ≡ 0 → ⊥) → read_state K p ≡ refused (read_state K p).number

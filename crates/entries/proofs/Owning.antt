@@ -17,15 +17,14 @@ use Rattle.model.specs.Rows.{wellformed}
 use Rattle.model.specs.States.{task_at}
 use Rattle.model.specs.Sound.{sound}
 use Rattle.model.specs.Cycles.{managing}
-use Rattle.model.specs.declared.Line.TheVariants.{Bad}
+use Rattle.std.specs.Prelude.{None}
 use Rattle.model.specs.declared.State.{State}
 use Rattle.model.proofs.Tests.{true_T, T_true}
 use Rattle.model.proofs.Formed.{formed}
 use Rattle.model.proofs.Soundness.{Sound, sound_of, of_sound}
 use Rattle.model.proofs.Sums.{sum_bound}
 use Rattle.logs.specs.Lines.{longest_row, set_digits, read_step}
-use Rattle.saved.specs.Rows.{begins_row, row_line, read_state}
-use Rattle.saved.specs.declared.Read.{Read}
+use Rattle.saved.specs.Rows.{Read, begins_row, row_line, read_state}
 use Rattle.saved.proofs.Rows.{row_back, row_is, begins_no_step, shaped_back}
 use Rattle.saved.proofs.Lengths.{row_long}
 use Rattle.entries.specs.Entries.{row_state, row_number, row_refusal}
@@ -38,7 +37,7 @@ pub record RowLaws (K : Table) : Type 0 where
   -- the row has at least 39 bytes for each task that manages in it, as many as the shortest `sm` line
   pub wide : (p : List ℕ) → accepted (row_number K p) ≡ true → 39 * managing K (row_state K p) ≤ length p
   -- a line that begins `state` and a tab is never a step
-  pub no_step : (p : List ℕ) → begins_row p ≡ true → read_step set_digits p ≡ Bad
+  pub no_step : (p : List ℕ) → begins_row p ≡ true → read_step set_digits p ≡ None
   -- one that is too long does not read
   pub long : (p : List ℕ) → longest_row ≤ length p → row_number K p ≡ 11
 

@@ -1,6 +1,6 @@
 -- What the lines of a log say, its `state` rows with them, and what such a row does: "A `state` row later in a log must equal the state
 -- reached. .. Refusals: 11 for one that does not read, 20 for a `state` row that is not sound, 21 for one that differs, both after 11."
-use Rattle.std.specs.Prelude.{ℕ, Bool, List, [], ◌∷◌, eqb}
+use Rattle.std.specs.Prelude.{ℕ, Bool, List, [], ◌∷◌, eqb, Option, Some, None}
 use Rattle.text.specs.Parts.{pick}
 use Rattle.text.specs.Words.{same_list}
 use Rattle.model.specs.Tests.{◌and◌, need, accepted}
@@ -9,11 +9,9 @@ use Rattle.model.specs.States.{fresh}
 use Rattle.model.specs.Sound.{sound}
 use Rattle.model.specs.Cycles.{Entry, step, row, neither}
 use Rattle.model.specs.declared.State.{State}
-use Rattle.model.specs.declared.Line.{Line}
-use Rattle.model.specs.declared.Line.TheVariants as line
+use Rattle.model.specs.declared.Step.{Step}
 use Rattle.logs.specs.Lines.{set_digits, read_step}
-use Rattle.saved.specs.Rows.{begins_row, row_line, refused, read_state}
-use Rattle.saved.specs.declared.Read.{Read}
+use Rattle.saved.specs.Rows.{Read, begins_row, row_line, refused, read_state}
 use Rattle.tally.specs.Tallies.{lines_of, after_row, began}
 use Rattle.tally.specs.declared.Tally.{Tally}
 
@@ -30,9 +28,9 @@ unfoldable pub row_refusal : Table → State → List ℕ → ℕ
 row_refusal K s p = pick (accepted (row_number K p)) (need (same_list p (row_line K s)) 21 0) (row_number K p)
 
 -- what a line with its newline says; one that begins `state` and a tab is never a step
-unfoldable pub entry_by : Table → List ℕ → Line → Entry
-entry_by K p (line.Is x) = step x
-entry_by K p line.Bad = pick (begins_row p) (row (λ s. row_refusal K s p)) neither
+unfoldable pub entry_by : Table → List ℕ → Option Step → Entry
+entry_by K p (Some x) = step x
+entry_by K p None = pick (begins_row p) (row (λ s. row_refusal K s p)) neither
 
 -- what stands behind the last newline: nothing is no line, anything else is a line without newline
 abbrev pub end_entry : List ℕ → List Entry

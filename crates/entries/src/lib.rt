@@ -3,51 +3,44 @@
 
 ghost use Rattle.std.specs.Prelude.{◌≡◌, T};
 ghost use Rattle.text.specs.Words.{same_list};
+ghost use Rattle.model.specs.Refusals.{numbered};
 ghost use Rattle.model.specs.Sound.{sound};
-ghost use Rattle.prepared.specs.Prepared.{table_in, Prepared};
-ghost use Rattle.saved.specs.Rows.{row_line};
+ghost use Rattle.prepared.specs.Held.{held};
+ghost use Rattle.saved.specs.Rows.{row_line, read_by};
 ghost use Rattle.entries.specs.Entries.{row_refusal, sound_row};
 
-use model::State;
-use saved::Read;
+use model::{Refusal, State};
+use prepared::Component;
 
-// What a line says as a row, without its newline: 11 where it does not read, 20 where its state is not sound.
-pub fn read_sound(rows: &[u32], index: &[u32], line: &[u8]) -> Read
-    requires { Prepared rows.now index.now }
-    ensures { result ≡ sound_row (table_in rows.now index.now) line.now }
+// The state that a line says as a row, without its newline, where it is sound.
+pub fn read_sound(component: &Component, line: &[u8]) -> Result<State, Refusal>
+    ensures { read_by result ≡ sound_row (held component.now) line.now }
 {
-    let read = saved::read_state(rows, index, line);
-    if read.number != 0 {
-        return read;
+    let s = saved::read_state(component, line)?;
+    if !soundness::is_sound(component, s) {
+        return Err(Refusal::Unsound);
     }
-    let s = read.state;
-    if soundness::is_sound(rows, index, s) {
-        return read;
-    }
-    saved::refused_by(20)
+    Ok(s)
 }
 
 // Is a line the row of a sound state?
-fn is_row_of(rows: &[u32], index: &[u32], line: &[u8], s: State) -> bool
-    requires { Prepared rows.now index.now × T (sound (table_in rows.now index.now) s) }
-    ensures { result ≡ same_list line.now (row_line (table_in rows.now index.now) s) }
+fn is_row_of(component: &Component, line: &[u8], s: State) -> bool
+    requires { T (sound (held component.now) s) }
+    ensures { result ≡ same_list line.now (row_line (held component.now) s) }
 {
     let mut row = [0u8; logs::LONGEST_ROW];
-    let n = saved::put_state(rows, index, s, &mut row);
-    text::same(line, &row[..n - 1])
+    let n = saved::put_state(component, s, &mut row);
+    line == &row[..n - 1]
 }
 
-// The refusal of a row behind line 1, 0 for none: it must equal the sound state reached. It is read only where it does not.
-pub fn later_number(rows: &[u32], index: &[u32], line: &[u8], s: State) -> u64
-    requires { Prepared rows.now index.now × T (sound (table_in rows.now index.now) s) }
-    ensures { result ≡ row_refusal (table_in rows.now index.now) s line.now }
+// A row behind line 1 must equal the sound state reached. It is read only where it does not, for why.
+pub fn later_number(component: &Component, line: &[u8], s: State) -> Result<(), Refusal>
+    requires { T (sound (held component.now) s) }
+    ensures { numbered result ≡ row_refusal (held component.now) s line.now }
 {
-    if is_row_of(rows, index, line, s) {
-        return 0;
+    if is_row_of(component, line, s) {
+        return Ok(());
     }
-    let read = read_sound(rows, index, line);
-    if read.number != 0 {
-        return read.number;
-    }
-    21
+    read_sound(component, line)?;
+    Err(Refusal::NotReached)
 }

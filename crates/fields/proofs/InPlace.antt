@@ -3,21 +3,21 @@ use Prim.Native.Nat.{ℕ, zero, suc, ◌+◌, ◌-◌, ◌*◌, ◌^◌, ◌≤�
 use mathlib.Core.Path.{◌≡◌, refl, sym, ap, subst, subst⁻¹, ◌∙◌}
 use mathlib.Core.List.{List, [], ◌∷◌, ◌++◌, append-nil}
 use mathlib.Core.Bool.{true, false}
+use mathlib.Core.Logic.{⊎_elim}
 use native.Mathlib.Omega.{arith}
 use native.Mathlib.Numerals.{add-one}
 use lib.Dec.{ltb, leb, eqb}
 use lib.ListN.{length, get_or, take, drop, length-append, drop_of_length-le, get_or-append}
 use lib.Seq.{drop-cons}
 use borrow.Author.Tests.{lt-ltb, le-ltb, le-leb, lt-leb, leb-true, eq-eqb, ne_eqb, ltb-true, eqb-true, eqb-false}
+use Rattle.std.specs.Char.{IsNotAsciiDigit}
+use Rattle.std.specs.Prelude.{Option, Some, None}
 use Rattle.text.specs.Parts.{pick}
 use Rattle.text.specs.Digits.{value_of, scan, pad}
 use Rattle.text.specs.Number.{read_number, width_of, digits}
 use Rattle.text.specs.Set.{read_set, empty_set}
 use Rattle.text.specs.Standing.{is_at, past}
 use Rattle.text.specs.declared.Set.{Set}
-use Rattle.text.specs.declared.Number.TheVariants as number
-use Rattle.text.specs.declared.SetField.{SetField}
-use Rattle.text.specs.declared.SetField.TheVariants as set
 use Rattle.text.proofs.Picks.{cases, order, passed, false_true}
 use Rattle.text.proofs.Digits.{bad_is, value_decimal, scan_append}
 use Rattle.text.proofs.Numbers.{width_within, width_bound, length_digits, read_digits, digits_read, number_below}
@@ -50,10 +50,10 @@ module _ (v d : ℕ) (some : 0 < v) (ten : d < 10) (most : v * 10 + d < no_numbe
   long = length-append (digits v) ((48 + d) ∷ []) ∙ rw (length_digits v)
 
   -- the digits are read, and the first is no zero
-  few : read_number 13 (digits v) ≡ number.Is v
+  few : read_number 13 (digits v) ≡ Some v
   few = read_digits 13 v (omega (arith, wide.1)) (omega (arith, wide.1))
 
-  scanned : (scan 10 0 (digits v) ≡ number.Is v) × (get_or (digits v) 0 0 ≡ 48 → ⊥)
+  scanned : (scan 10 0 (digits v) ≡ Some v) × (get_or (digits v) 0 0 ≡ 48 → ⊥)
   unfolding read_number
   scanned =
       let a = passed (eqb (length (digits v)) 0) bad_is few in
@@ -80,8 +80,8 @@ module _ (v d : ℕ) (some : 0 < v) (ten : d < 10) (most : v * 10 + d < no_numbe
       let f : get_or longer 0 0 ≡ get_or (digits v) 0 0 = get_or-append (digits v) ((48 + d) ∷ []) 0 0 (omega (arith, length_digits v, wide.0)) in
       let n48 : get_or longer 0 0 ≡ 48 → ⊥ = λ q. scanned.1 (sym f ∙ q) in
       let g : 48 + d - 48 ≡ d = omega arith in
-      let u : scan 10 0 longer ≡ number.Is (v * 10 + d) = scan_append 10 0 v (digits v) ((48 + d) ∷ []) scanned.0 ∙ rw (value_decimal (48 + d) (omega arith) (omega arith), g, lt-ltb d 10 ten) in
-      let r : read_number 13 longer ≡ number.Is (v * 10 + d) = rw (ne_eqb _ _ n0, le-ltb _ _ m13, le-ltb _ _ m19, ne_eqb _ _ n1, ne_eqb _ _ n48) u in
+      let u : scan 10 0 longer ≡ Some (v * 10 + d) = scan_append 10 0 v (digits v) ((48 + d) ∷ []) scanned.0 ∙ rw (value_decimal (48 + d) (omega arith) (omega arith), g, lt-ltb d 10 ten) in
+      let r : read_number 13 longer ≡ Some (v * 10 + d) = rw (ne_eqb _ _ n0, le-ltb _ _ m13, le-ltb _ _ m19, ne_eqb _ _ n1, ne_eqb _ _ n48) u in
       (digits_read 13 longer (v * 10 + d) r).0
 
 -- digits read one after another, up to a place
@@ -142,13 +142,16 @@ module _ (s : List ℕ) (at : ℕ) where
     inside : (ltb at (length s) ≡ true) × (ltb (at + 1) (length s) ≡ true)
     inside = (lt-ltb at (length s) (omega arith), lt-ltb (at + 1) (length s) (omega arith))
 
-    pub number_low : first < 48 → nothing s ≡ number_at s at
+    number_low : first < 48 → nothing s ≡ number_at s at
     unfolding number_at
     number_low l = rw (inside.0, inside.1, eq-eqb _ _ e, lt-ltb first 48 l)
 
-    pub number_high : 57 < first → nothing s ≡ number_at s at
+    number_high : 57 < first → nothing s ≡ number_at s at
     unfolding number_at
     number_high l = let a : 48 ≤ first = omega arith in let b : 58 ≤ first = omega arith in rw (inside.0, inside.1, eq-eqb _ _ e, le-ltb first 48 a, le-ltb first 58 b)
+
+    pub number_letter : IsNotAsciiDigit first → nothing s ≡ number_at s at
+    number_letter = ⊎_elim number_low number_high
 
     module _ (a : 48 ≤ first) (b : first ≤ 57) where
       pub number_zero : first - 48 ≡ 0 → stood 0 (at + 2) ≡ number_at s at
@@ -188,11 +191,14 @@ module _ {s : List ℕ} {at v i : ℕ} (W : Spelling s at v i) where
   spelling_end h = rw (drop_of_length-le s h) at W.same
 
   module _ (h : i < length s) where
-    pub spelling_low : get_or s i 0 < 48 → stood v i ≡ number_at s at
+    spelling_low : get_or s i 0 < 48 → stood v i ≡ number_at s at
     spelling_low l = sym (spelled_none s i v h (below_digit _ l)) ∙ W.same
 
-    pub spelling_high : 57 < get_or s i 0 → stood v i ≡ number_at s at
+    spelling_high : 57 < get_or s i 0 → stood v i ≡ number_at s at
     spelling_high l = sym (spelled_none s i v h (above_digit _ l)) ∙ W.same
+
+    pub spelling_letter : IsNotAsciiDigit (get_or s i 0) → stood v i ≡ number_at s at
+    spelling_letter = ⊎_elim spelling_low spelling_high
 
     module _ (a : 48 ≤ get_or s i 0) (b : get_or s i 0 ≤ 57) where
       pub spelling_over : no_number ≤ v * 10 + (get_or s i 0 - 48) → stood v i ≡ number_at s at
@@ -333,7 +339,7 @@ past_bytes s at (b ∷ t) h =
     at_byte s at b y = order at (length s) (λ l. (l, eqb-true _ _ (rw (lt-ltb _ _ l) at y))) (λ l. absurd (false_true (rw (le-ltb _ _ l) at y)))
 
 -- zeros are read as the empty set
-zeros_read : {l : List ℕ} → l ≡ pad 16 16 0 → read_set set_digits l ≡ set.Is empty_set
+zeros_read : {l : List ℕ} → l ≡ pad 16 16 0 → read_set set_digits l ≡ Some empty_set
 unfolding read_set value_of
 zeros_read q = rw q refl
 
@@ -355,14 +361,14 @@ module _ (s : List ℕ) (at : ℕ) where
     unfolding set_at
     set_by_lem = let l : at + 1 + 16 ≤ length s = omega arith in rw (le-leb _ _ l, lt-ltb at (length s) (omega arith), eq-eqb _ _ t)
 
-    module _ {f : SetField} {e : ℕ} (j : e ≡ at + 1 + 16) (r : f ≡ read_set set_digits (take (e - (at + 1)) (drop (at + 1) s))) where
+    module _ {f : Option Set} {e : ℕ} (j : e ≡ at + 1 + 16) (r : f ≡ read_set set_digits (take (e - (at + 1)) (drop (at + 1) s))) where
       part_set : read_set set_digits (take 16 (drop (at + 1) s)) ≡ f
       part_set = let m : e - (at + 1) ≡ 16 = omega arith in sym (rw m at r)
 
-      pub set_bad : f ≡ set.Bad → nothing s ≡ set_at s at
+      pub set_bad : f ≡ None → nothing s ≡ set_at s at
       set_bad q = ap (set_by s (at + 1 + 16)) (sym (part_set ∙ q)) ∙ set_by_lem
 
-      pub set_taken : (n : Set) → f ≡ set.Is n → stood n.low e ≡ set_at s at
+      pub set_taken : (n : Set) → f ≡ Some n → stood n.low e ≡ set_at s at
       set_taken n q = ap (stood n.low) j ∙ ap (set_by s (at + 1 + 16)) (sym (part_set ∙ q)) ∙ set_by_lem
 
   pub set_empty : {p : ℕ} → p ≡ past s at (9 ∷ pad 16 16 0) → p < length s → stood 0 p ≡ set_at s at
@@ -372,15 +378,15 @@ module _ (s : List ℕ) (at : ℕ) where
       let d : drop at s ≡ get_or s at 0 ∷ drop (at + 1) s = rw (add-one at) (drop-cons s at 0 (omega arith)) in
       let z : get_or s at 0 ∷ take 16 (drop (at + 1) s) ≡ 9 ∷ pad 16 16 0 = sym (ap (take 17) d) ∙ b.1 in
       let t : get_or s at 0 ≡ 9 = ap (λ l. get_or l 0 0) z in
-      let r : set.Is empty_set ≡ read_set set_digits (take (p - (at + 1)) (drop (at + 1) s)) = let m : p - (at + 1) ≡ 16 = omega arith in rw m (sym (zeros_read (ap (drop 1) z))) in
+      let r : Some empty_set ≡ read_set set_digits (take (p - (at + 1)) (drop (at + 1) s)) = let m : p - (at + 1) ≡ 16 = omega arith in rw m (sym (zeros_read (ap (drop 1) z))) in
       set_taken (omega arith) t {e = p} (omega arith) r empty_set refl
 
 -- the text of what is read
-set_same : (s : List ℕ) (at : ℕ) (n : Set) → set.Is n ≡ read_set set_digits (take (at + 17 - (at + 1)) (drop (at + 1) s)) → (form_text a_set n.low ≡ take 16 (drop (at + 1) s)) × (n.low < 2 ^ 64)
+set_same : (s : List ℕ) (at : ℕ) (n : Set) → Some n ≡ read_set set_digits (take (at + 17 - (at + 1)) (drop (at + 1) s)) → (form_text a_set n.low ≡ take 16 (drop (at + 1) s)) × (n.low < 2 ^ 64)
 unfolding read_form form_ok
 set_same s at n r =
     let m : at + 17 - (at + 1) ≡ 16 = omega arith in
-    let u : read_set set_digits (take 16 (drop (at + 1) s)) ≡ set.Is n = sym (rw m at r) in
+    let u : read_set set_digits (take 16 (drop (at + 1) s)) ≡ Some n = sym (rw m at r) in
     let g = form_read a_set n.low (take 16 (drop (at + 1) s)) (rw u) in
     (g.0, ltb-true n.low (2 ^ 64) g.1)
 
@@ -399,15 +405,15 @@ module _ (s : List ℕ) (at : ℕ) (l : at ≤ length s) where
       (λ y. let t = eqb-true _ 9 y in by h t (read_set set_digits (take (at + 17 - (at + 1)) (drop (at + 1) s))) refl)
       (λ y. set_none (set_other s at (eqb-false _ 9 y))))
     where
-      set_text_lem : 17 ≤ length s - at → get_or s at 0 ≡ 9 → (n : Set) → set.Is n ≡ read_set set_digits (take (at + 17 - (at + 1)) (drop (at + 1) s)) → IsSet (stood n.low (at + 17))
+      set_text_lem : 17 ≤ length s - at → get_or s at 0 ≡ 9 → (n : Set) → Some n ≡ read_set set_digits (take (at + 17 - (at + 1)) (drop (at + 1) s)) → IsSet (stood n.low (at + 17))
       set_text_lem h t n r =
           let g = set_same s at n r in
           let z : at + 17 ≡ at + 1 + 16 = omega arith in
           (stands_read l (rw g.0 (z ∙ bytes_stand s (at + 1) 16 (omega arith) ∙ sym (same_byte s at 9 _ (omega arith) t))), g.1)
 
-      by : 17 ≤ length s - at → get_or s at 0 ≡ 9 → (f : SetField) → f ≡ read_set set_digits (take (at + 17 - (at + 1)) (drop (at + 1) s)) → IsSet (set_at s at)
-      by h t (set.Is n) r = subst IsSet (set_taken s at h t {e = at + 17} (omega arith) r n refl) (set_text_lem h t n r)
-      by h t set.Bad r = set_none (set_bad s at h t {e = at + 17} (omega arith) r refl)
+      by : 17 ≤ length s - at → get_or s at 0 ≡ 9 → (f : Option Set) → f ≡ read_set set_digits (take (at + 17 - (at + 1)) (drop (at + 1) s)) → IsSet (set_at s at)
+      by h t (Some n) r = subst IsSet (set_taken s at h t {e = at + 17} (omega arith) r n refl) (set_text_lem h t n r)
+      by h t None r = set_none (set_bad s at h t {e = at + 17} (omega arith) r refl)
 
 -- nothing stands at the end, nor behind it
 past_end : (s : List ℕ) (at : ℕ) (t : List ℕ) → length s ≤ at → length s ≤ past s at t

@@ -9,9 +9,8 @@ use native.Mathlib.Numerals.{add-one}
 use native.Mathlib.Nat.{suc-mul}
 use lib.ListN.{length, length-append}
 use lib.Dec.{eqb}
+use Rattle.std.specs.Prelude.{Option, Some, None}
 use Rattle.text.specs.Parts.{split_on, join_on, free}
-use Rattle.text.specs.declared.Number.{Number}
-use Rattle.text.specs.declared.Number.TheVariants as number
 use Rattle.text.proofs.Picks.{picked, false_true}
 use Rattle.text.proofs.Parts.{split_cut, split_join}
 use Rattle.text.proofs.Digits.{free_append}
@@ -44,16 +43,16 @@ fields_read (f ∷ fs) vs [] rest u = absurd (none_part u)
 fields_read (f ∷ fs) vs (p ∷ ps) rest u = go (λ ws qs. fields_read fs ws ps qs) (read_form f p) refl (read_fields fs ps) refl u
   where
     go : ((ws : List ℕ) (qs : List (List ℕ)) → read_fields fs ps ≡ part ws qs → (ps ≡ field_parts fs ws ++ qs) × (values_ok fs ws ≡ true))
-        → (n : Number) → read_form f p ≡ n → (x : Part) → read_fields fs ps ≡ x → with_value n x ≡ part vs rest
+        → (n : Option ℕ) → read_form f p ≡ n → (x : Part) → read_fields fs ps ≡ x → with_value n x ≡ part vs rest
         → (p ∷ ps ≡ field_parts (f ∷ fs) vs ++ rest) × (values_ok (f ∷ fs) vs ≡ true)
-    go others (number.Is v) e (part ws qs) q u =
+    go others (Some v) e (part ws qs) q u =
         let a : v ∷ ws ≡ vs = cc in
         let b : qs ≡ rest = cc in
         let h = others ws qs q in
         let w = form_read f v p e in
         rw (← a, ← b, w.0, w.1, h.0) (refl, h.1)
-    go others (number.Is v) e none q u = absurd (none_part u)
-    go others number.Bad e x q u = absurd (none_part u)
+    go others (Some v) e none q u = absurd (none_part u)
+    go others None e x q u = absurd (none_part u)
 
 -- a line of a word and fields is cut at its tabs into the word and the fields
 pub fields_split : (fs vs w : List ℕ) → free 9 w ≡ true → split_on 9 (w ++ fields_text fs vs) ≡ w ∷ field_parts fs vs

@@ -7,14 +7,11 @@ use native.Mathlib.Numerals.{add-one}
 use native.Mathlib.Nat.{add-zero, suc-mul}
 use lib.ListN.{length, get_or, drop, set, drop_of_length-le, length-set}
 use lib.Seq.{drop-cons}
+use Rattle.std.specs.Prelude.{Option, Some, None}
 use Rattle.text.specs.Fields.{behind}
-use Rattle.text.specs.declared.Got.{Got}
-use Rattle.text.specs.declared.Got.TheVariants as got
 use Rattle.text.proofs.Fields.{behind_ends}
 use Rattle.fields.specs.Forms.{read_form}
 use Rattle.fields.specs.Fields.{repeated, Taken, on_field, took, Took}
-use Rattle.fields.specs.declared.End.{End}
-use Rattle.fields.specs.declared.End.TheVariants.{At, Bad}
 use Rattle.fields.proofs.Taking.{took_append, took_append_bad, took_length, took_ends}
 
 -- the first i fields of a description are read, the values before them b₀ and now b, the last of them ends at p
@@ -30,26 +27,26 @@ reading_start fs line at from b h = record { inside = omega arith; ends = h; kep
 
 module _ (fs line : List ℕ) (from : ℕ) (b₀ : List ℕ) (x : Taken) (b : List ℕ) (p i : ℕ) (w : Reading fs line from b₀ x b p i) where
   -- all are read
-  pub reading_end : length fs ≤ i → Took x (At p) b
+  pub reading_end : length fs ≤ i → Took x (Some p) b
   unfolding took
   reading_end h =
-      let e : record { end = At p; values = b } ≡ x = rw (drop_of_length-le fs h) at w.same in
+      let e : record { end = Some p; values = b } ≡ x = rw (drop_of_length-le fs h) at w.same in
       record { end = ap (λ y. y.end) e; values = ap (λ y. y.values) e }
 
-  module _ (h : i < length fs) (g : Got) (q : g ≡ behind (read_form (get_or fs i 0)) line p) where
+  module _ (h : i < length fs) (g : Option (ℕ × ℕ)) (q : g ≡ behind (read_form (get_or fs i 0)) line p) where
     -- taking goes on with the next
     next : on_field g (λ v e. took (drop (suc i) fs) line e (suc (from + i)) (set b (from + i) v)) b ≡ x
     unfolding took
     next = rw q (rw (drop-cons fs i 0 h) at w.same)
 
     -- the next has bad form
-    pub reading_bad : g ≡ got.Bad → Took x Bad b
+    pub reading_bad : g ≡ None → Took x None b
     reading_bad u =
-        let e : record { end = Bad; values = b } ≡ x = rw u at next in
+        let e : record { end = None; values = b } ≡ x = rw u at next in
         record { end = ap (λ y. y.end) e; values = ap (λ y. y.values) e }
 
     -- the next is read
-    pub reading_more : (v e : ℕ) → g ≡ got.Is v e → Reading fs line from b₀ x (set b (from + i) v) e (i + 1)
+    pub reading_more : (v e : ℕ) → g ≡ Some (v, e) → Reading fs line from b₀ x (set b (from + i) v) e (i + 1)
     reading_more v e u =
         let n : from + suc i ≡ suc (from + i) = omega arith in
         record {
@@ -76,11 +73,11 @@ repeating_start fs line many at from b h l =
 
 module _ (fs line : List ℕ) (many : ℕ) (b₀ : List ℕ) (x : Taken) (b : List ℕ) (p i k : ℕ) (w : Repeating fs line many b₀ x b p i k) where
   -- as often as asked for
-  pub repeating_end : many ≤ k → Took x (At p) b
+  pub repeating_end : many ≤ k → Took x (Some p) b
   unfolding took repeated
   repeating_end h =
       let n : many - k ≡ 0 = omega arith in
-      let e : record { end = At p; values = b } ≡ x = rw n at w.same in
+      let e : record { end = Some p; values = b } ≡ x = rw n at w.same in
       record { end = ap (λ y. y.end) e; values = ap (λ y. y.values) e }
 
   module _ (h : k < many) where
@@ -96,26 +93,26 @@ module _ (fs line : List ℕ) (many : ℕ) (b₀ : List ℕ) (x : Taken) (b : Li
     pub repeating_room : i + length fs ≤ length b
     repeating_room = omega (arith, room_more)
 
-    module _ (r : End) (after : List ℕ) (t : Took (took fs line p i b) r after) where
+    module _ (r : Option ℕ) (after : List ℕ) (t : Took (took fs line p i b) r after) where
       -- it keeps how many values there are
       pub repeating_kept : length after ≡ length b₀
       repeating_kept = ap length t.values ∙ took_length fs line p i b ∙ w.kept
 
       -- once more has bad form
-      pub repeating_bad : r ≡ Bad → Took x Bad after
+      pub repeating_bad : r ≡ None → Took x None after
       unfolding repeated
       repeating_bad u =
-          let bad : (took fs line p i b).end ≡ Bad = sym t.end ∙ u in
+          let bad : (took fs line p i b).end ≡ None = sym t.end ∙ u in
           let e : took fs line p i b ≡ x = sym (took_append_bad fs (repeated (many - (k + 1)) fs) line p i b bad) ∙ rw left at w.same in
           record { end = sym bad ∙ ap (λ y. y.end) e; values = t.values ∙ ap (λ y. y.values) e }
 
       -- once more is read
-      pub repeating_more : (e : ℕ) → r ≡ At e → Repeating fs line many b₀ x after e (i + length fs) (k + 1)
+      pub repeating_more : (e : ℕ) → r ≡ Some e → Repeating fs line many b₀ x after e (i + length fs) (k + 1)
       unfolding repeated
       repeating_more e u =
-          let there : (took fs line p i b).end ≡ At e = sym t.end ∙ u in
+          let there : (took fs line p i b).end ≡ Some e = sym t.end ∙ u in
           let same : length after ≡ length b = ap length t.values ∙ took_length fs line p i b in
-          let both : took fs line p i b ≡ record { end = At e; values = after } = rw (t.values, ← there) in
+          let both : took fs line p i b ≡ record { end = Some e; values = after } = rw (t.values, ← there) in
           record {
             inside = omega arith;
             ends = took_ends fs line p i b e w.ends there;

@@ -1,14 +1,8 @@
 -- Fields one after another, as a description lists their forms: how they are read, and how they are written.
-use Rattle.std.specs.Prelude.{ℕ, zero, suc, Bool, true, false, ◌≡◌, List, [], ◌∷◌, ◌++◌, set}
+use Rattle.std.specs.Prelude.{ℕ, zero, suc, Bool, true, false, ◌≡◌, List, [], ◌∷◌, ◌++◌, set, Option, Some, None}
 use Rattle.text.specs.Parts.{pick}
 use Rattle.text.specs.Fields.{behind}
-use Rattle.text.specs.declared.Number.{Number}
-use Rattle.text.specs.declared.Number.TheVariants as number
-use Rattle.text.specs.declared.Got.{Got}
-use Rattle.text.specs.declared.Got.TheVariants as got
 use Rattle.fields.specs.Forms.{read_form, form_text, form_ok}
-use Rattle.fields.specs.declared.End.{End}
-use Rattle.fields.specs.declared.End.TheVariants.{At, Bad}
 
 -- a description so many times over
 unfoldable pub repeated : ℕ → List ℕ → List ℕ
@@ -20,10 +14,10 @@ pub data Part : Type 0 where
   part : List ℕ → List (List ℕ) → Part
   none : Part
 
-abbrev pub with_value : Number → Part → Part
-with_value (number.Is v) (part vs ps) = part (v ∷ vs) ps
-with_value (number.Is v) none = none
-with_value number.Bad r = none
+abbrev pub with_value : Option ℕ → Part → Part
+with_value (Some v) (part vs ps) = part (v ∷ vs) ps
+with_value (Some v) none = none
+with_value None r = none
 
 unfoldable pub read_fields : List ℕ → List (List ℕ) → Part
 read_fields [] ps = part [] ps
@@ -51,18 +45,18 @@ values_ok (f ∷ fs) (v ∷ vs) = pick (form_ok f v) (values_ok fs vs) false
 -- as the code reads them: from the tab at a place of a line on, the values stored from a place on, up to the first of bad form; where it
 -- ended, and what is stored then
 pub record Taken : Type 0 where
-  pub end : End
+  pub end : Option ℕ
   pub values : List ℕ
 
-abbrev pub on_field : Got → (ℕ → ℕ → Taken) → List ℕ → Taken
-on_field (got.Is v e) go b = go v e
-on_field got.Bad go b = record { end = Bad; values = b }
+abbrev pub on_field : Option (ℕ × ℕ) → (ℕ → ℕ → Taken) → List ℕ → Taken
+on_field (Some (v, e)) go b = go v e
+on_field None go b = record { end = None; values = b }
 
 unfoldable pub took : List ℕ → List ℕ → ℕ → ℕ → List ℕ → Taken
-took [] line at i b = record { end = At at; values = b }
+took [] line at i b = record { end = Some at; values = b }
 took (f ∷ fs) line at i b = on_field (behind (read_form f) line at) (λ v e. took fs line e (suc i) (set b i v)) b
 
 -- an answer and a buffer are what was taken
-pub record Took (x : Taken) (r : End) (after : List ℕ) : Type 0 where
+pub record Took (x : Taken) (r : Option ℕ) (after : List ℕ) : Type 0 where
   pub end : r ≡ x.end
   pub values : after ≡ x.values

@@ -1,15 +1,12 @@
 -- What one field of a `state` row says, by its form, and how its value is written: "sets as in `sm`, yes as 1, managing as 1, `manager` or
 -- `ether` where no number stands, numbers to 13 digits".
-use Rattle.std.specs.Prelude.{ℕ, ◌^◌, Bool, List, [], ◌∷◌, ltb, leb, eqb}
+use Rattle.std.specs.Prelude.{ℕ, ◌^◌, Bool, List, [], ◌∷◌, ltb, leb, eqb, Option, Some, None, option_map}
+use Rattle.text.specs.declared.Set.{Set}
 use Rattle.text.specs.Parts.{pick}
 use Rattle.text.specs.Number.{read_number, digits}
 use Rattle.text.specs.Set.{read_set, set_text}
 use Rattle.text.specs.Words.{same_list}
 use Rattle.text.specs.Fields.{ether_word}
-use Rattle.text.specs.declared.Number.{Number}
-use Rattle.text.specs.declared.Number.TheVariants as number
-use Rattle.text.specs.declared.SetField.{SetField}
-use Rattle.text.specs.declared.SetField.TheVariants as set
 use Rattle.logs.specs.Lines.{set_digits}
 
 -- the forms: a number, yes or no, who holds, a set, where an activity is
@@ -40,21 +37,20 @@ unfoldable pub manager_word : List ℕ
 manager_word = 109 ∷ 97 ∷ 110 ∷ 97 ∷ 103 ∷ 101 ∷ 114 ∷ []
 
 -- "`manager` or `ether` where no number stands"
-unfoldable pub word_or : List ℕ → List ℕ → Number
-word_or word p = pick (same_list p word) (number.Is no_number) (read_number most_digits p)
+unfoldable pub word_or : List ℕ → List ℕ → Option ℕ
+word_or word p = pick (same_list p word) (Some no_number) (read_number most_digits p)
 
 -- "yes as 1", and no as 0
-abbrev pub yes_of : Number → Number
-yes_of (number.Is v) = pick (ltb v 2) (number.Is v) number.Bad
-yes_of number.Bad = number.Bad
+abbrev pub yes_of : Option ℕ → Option ℕ
+yes_of (Some v) = pick (ltb v 2) (Some v) None
+yes_of None = None
 
 -- "sets as in `sm`", as a number whose bits are the members
-abbrev pub set_of : SetField → Number
-set_of (set.Is n) = number.Is n.low
-set_of set.Bad = number.Bad
+abbrev pub set_of : Option Set → Option ℕ
+set_of f = option_map (λ n. n.low) f
 
 -- what a field of a form says
-unfoldable pub read_form : ℕ → List ℕ → Number
+unfoldable pub read_form : ℕ → List ℕ → Option ℕ
 read_form form p =
     pick (eqb form a_holder) (word_or manager_word p)
     (pick (eqb form a_place) (word_or ether_word p)

@@ -1,10 +1,9 @@
 -- A field read in place: what stands behind the tab at a place. Its value and where it ends, or nothing, which is said by the end of all.
-use Rattle.std.specs.Prelude.{ℕ, ◌+◌, ◌-◌, ◌*◌, ◌≤◌, ◌<◌, Bool, false, ◌≡◌, List, [], ◌∷◌, ltb, leb, eqb, length, get_or, take, drop}
+use Rattle.std.specs.Prelude.{ℕ, ◌+◌, ◌-◌, ◌*◌, ◌≤◌, ◌<◌, Bool, false, ◌≡◌, List, [], ◌∷◌, ltb, leb, eqb, length, get_or, take, drop, Option, Some, None}
+use Rattle.text.specs.declared.Set.{Set}
 use Rattle.text.specs.Parts.{pick}
 use Rattle.text.specs.Set.{read_set}
 use Rattle.text.specs.Standing.{is_at, past}
-use Rattle.text.specs.declared.SetField.{SetField}
-use Rattle.text.specs.declared.SetField.TheVariants as set
 use Rattle.logs.specs.Lines.{set_digits}
 use Rattle.fields.specs.Forms.{no_number}
 use Rattle.fields.specs.declared.Stood.{Stood}
@@ -50,9 +49,9 @@ unfoldable pub word_at : List ℕ → List ℕ → ℕ → Stood
 word_at word s at = pick (ltb (past s at word) (length s)) (stood no_number (past s at word)) (number_at s at)
 
 -- a set: as many digits as one has
-abbrev pub set_by : List ℕ → ℕ → SetField → Stood
-set_by s e (set.Is n) = stood n.low e
-set_by s e set.Bad = nothing s
+abbrev pub set_by : List ℕ → ℕ → Option Set → Stood
+set_by s e (Some n) = stood n.low e
+set_by s e None = nothing s
 
 unfoldable pub set_at : List ℕ → ℕ → Stood
 set_at s at =

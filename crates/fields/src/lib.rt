@@ -8,11 +8,11 @@ ghost use Rattle.text.specs.Number.{digits};
 ghost use Rattle.text.specs.Fields.{behind};
 ghost use Rattle.text.specs.Put.{Put};
 ghost use Rattle.text.specs.Standing.{past};
-ghost use Rattle.fields.specs.Forms.{a_set, yes_of, set_of, word_or, read_form, word_text, form_text};
+ghost use Rattle.fields.specs.Forms.{a_set, word_or, read_form, word_text, form_text};
 ghost use Rattle.fields.specs.Reading.{nothing, number_at, yes_at, word_at, set_at};
 ghost use Rattle.fields.specs.Fields.{fields_text, repeated, took, Took};
 
-use text::{Got, Number, Set, SetField};
+use text::Set;
 
 // "numbers to 13 digits"
 const MOST_DIGITS: usize = 13;
@@ -20,7 +20,8 @@ const MOST_DIGITS: usize = 13;
 // The value of `manager` and of `ether`, "where no number stands": above every number of a field.
 pub const NO_NUMBER: u64 = 10000000000000;
 
-// What a field says: a number, yes or no, who holds, a set, where an activity is.
+// What a field says: a number, yes or no, who holds, a set, where an activity is. Its form stays a number, and is no enum: `read_fields`,
+// `read_parts` and `put_fields` promise what they do for any number as a form, and that promise may not change.
 pub const A_NUMBER: usize = 0;
 
 pub const A_YES: usize = 1;
@@ -31,104 +32,71 @@ pub const A_SET: usize = 3;
 
 pub const A_PLACE: usize = 4;
 
-// Where the fields that were read end, or bad form.
-#[derive(Clone, Copy)]
-pub enum End {
-    At(usize),
-    Bad,
-}
-
-// A field that was read in place: its value and the place behind it, or the end where it does not read.
+// A field that was read in place: its value and the place behind it, or the end where it does not read. A flag would be tested behind every
+// field of a row; so none is: from the end on nothing reads, and the place behind the last field tells of them all.
 #[derive(Clone, Copy)]
 pub struct Stood {
     pub value: u64,
     pub end: usize,
 }
 
-// "yes as 1": of a number, whether it is 0 or 1.
-fn yes_of(n: Number) -> Number
-    ensures { result ≡ yes_of n }
-{
-    let Number::Is(v) = n else {
-        return Number::Bad;
-    };
-    if v < 2 {
-        return Number::Is(v);
-    }
-    Number::Bad
-}
-
-// "sets as in `sm`": a set as a number.
-fn set_of(field: SetField) -> Number
-    ensures { result ≡ set_of field }
-{
-    match field {
-        SetField::Is(n) => Number::Is(n.low),
-        SetField::Bad => Number::Bad,
-    }
-}
-
 // A number, or the word that stands where no number does.
-fn word_or(word: &[u8], p: &[u8]) -> Number
+fn word_or(word: &[u8], p: &[u8]) -> Option<u64>
     ensures { result ≡ word_or word.now p.now }
 {
-    if text::same(p, word) {
-        return Number::Is(NO_NUMBER);
+    if p == word {
+        return Some(NO_NUMBER);
     }
     text::read_number(p, MOST_DIGITS)
 }
 
-// What a field of a form says.
-fn read_form(form: usize, p: &[u8]) -> Number
+// What a field of a form says: "sets as in `sm`, yes as 1".
+fn read_form(form: usize, p: &[u8]) -> Option<u64>
     ensures { result ≡ read_form form p.now }
 {
-    if form == A_HOLDER {
-        return word_or(b"manager", p);
+    match form {
+        A_HOLDER => word_or(b"manager", p),
+        A_PLACE => word_or(b"ether", p),
+        A_SET => text::read_set(p, logs::SET_DIGITS).map(|set| set.low),
+        A_YES => text::read_number(p, 1).filter(|v| *v < 2),
+        _ => text::read_number(p, MOST_DIGITS),
     }
-    if form == A_PLACE {
-        return word_or(b"ether", p);
-    }
-    if form == A_SET {
-        return set_of(text::read_set(p, logs::SET_DIGITS));
-    }
-    if form == A_YES {
-        return yes_of(text::read_number(p, 1));
-    }
-    text::read_number(p, MOST_DIGITS)
 }
 
-// The field behind the tab at a place: its value and where it ends.
-fn read_field(line: &[u8], at: usize, form: usize) -> Got
+// The field behind the tab at a place: its value and where it ends. `logs::head_field` does the same for the numbers of a log: one function for
+// both would take a closure, and its contract would be longer than these lines.
+fn read_field(line: &[u8], at: usize, form: usize) -> Option<(u64, usize)>
     requires { at ≤ length line.now }
     ensures { result ≡ behind (read_form form) line.now at }
 {
     if line.len() <= at {
-        return Got::Bad;
+        return None;
     }
-    let a = at + 1;
-    let e = text::next_byte(line, a, text::TAB);
-    let Number::Is(v) = read_form(form, &line[a..e]) else {
-        return Got::Bad;
-    };
-    Got::Is(v, e)
+    let start = at + 1;
+    let end = text::next_byte(line, start, text::TAB);
+    let value = read_form(form, &line[start..end])?;
+    Some((value, end))
 }
 
-// Reads a field for each form from the tab at a place on, and stores their values from a place on, up to the first of bad form.
-pub fn read_fields(line: &[u8], at: usize, forms: &[usize], values: &mut [u64], from: usize) -> End
+// Reads a field for each form from the tab at a place on, and stores their values from a place on, up to the first of bad form; says where
+// the last ends.
+pub fn read_fields(
+    line: &[u8],
+    at: usize,
+    forms: &[usize],
+    values: &mut [u64],
+    from: usize,
+) -> Option<usize>
     requires { (at ≤ length line.now) × (from + length forms.now ≤ length values.old) }
     ensures { Took (took forms.now line.now at from values.old) result values.new }
 {
-    let mut p = at;
-    let mut i = 0;
-    while i < forms.len() {
-        let Got::Is(v, e) = read_field(line, p, forms[i]) else {
-            return End::Bad;
-        };
-        values[from + i] = v;
-        p = e;
-        i += 1;
+    let mut end = at;
+    for i in 0..forms.len() {
+        let (value, next) = read_field(line, end, forms[i])?;
+        values[from + i] = value;
+        end = next;
     }
-    End::At(p)
+    Some(end)
 }
 
 // The same so many times.
@@ -139,22 +107,17 @@ pub fn read_parts(
     many: usize,
     values: &mut [u64],
     from: usize,
-) -> End
+) -> Option<usize>
     requires { (at ≤ length line.now) × (from + many * length forms.now ≤ length values.old) }
     ensures { Took (took (repeated many forms.now) line.now at from values.old) result values.new }
 {
-    let mut p = at;
-    let mut i = from;
-    let mut k = 0;
-    while k < many {
-        let End::At(e) = read_fields(line, p, forms, values, i) else {
-            return End::Bad;
-        };
-        p = e;
-        i += forms.len();
-        k += 1;
+    let mut end = at;
+    let mut place = from;
+    for _ in 0..many {
+        end = read_fields(line, end, forms, values, place)?;
+        place += forms.len();
     }
-    End::At(p)
+    Some(end)
 }
 
 // Writes a number, or the word that stands where no number does.
@@ -171,16 +134,12 @@ fn put_word_or(buf: &mut [u8], at: usize, word: &[u8], v: u64) -> usize
 fn put_form(buf: &mut [u8], at: usize, form: usize, v: u64) -> usize
     ensures { Put buf.old at (form_text form v) result buf.new }
 {
-    if form == A_HOLDER {
-        return put_word_or(buf, at, b"manager", v);
+    match form {
+        A_HOLDER => put_word_or(buf, at, b"manager", v),
+        A_PLACE => put_word_or(buf, at, b"ether", v),
+        A_SET => text::put_set(buf, at, logs::SET_DIGITS, Set { low: v, high: 0 }),
+        _ => text::put_number(buf, at, v),
     }
-    if form == A_PLACE {
-        return put_word_or(buf, at, b"ether", v);
-    }
-    if form == A_SET {
-        return text::put_set(buf, at, logs::SET_DIGITS, Set { low: v, high: 0 });
-    }
-    text::put_number(buf, at, v)
 }
 
 // Writes a field for each form at a place that has room for them, each with the tab before it, and answers the place after them.
@@ -188,14 +147,12 @@ pub fn put_fields(buf: &mut [u8], at: usize, forms: &[usize], values: &[u64]) ->
     requires { (length forms.now ≤ length values.now) × (at + length (fields_text forms.now values.now) ≤ length buf.old) }
     ensures { (result ≡ at + length (fields_text forms.now values.now)) × (buf.new ≡ sets buf.old at (fields_text forms.now values.now)) }
 {
-    let mut p = at;
-    let mut i = 0;
-    while i < forms.len() {
-        buf[p] = text::TAB;
-        p = put_form(buf, p + 1, forms[i], values[i]);
-        i += 1;
+    let mut end = at;
+    for (form, value) in forms.iter().zip(values) {
+        buf[end] = text::TAB;
+        end = put_form(buf, end + 1, *form, *value);
     }
-    p
+    end
 }
 
 // The place behind a number's field, with the tab before it, where it stands at a place; the end where it does not. Most have one digit.
@@ -203,19 +160,16 @@ pub fn past_number(s: &[u8], at: usize, v: u64) -> usize
     requires { at ≤ length s.now }
     ensures { result ≡ past s.now at (9 ∷ digits v) }
 {
-    if s.len() - at < 2 {
+    if s.len() - at < 2 || s[at] != text::TAB {
         return s.len();
     }
-    if s[at] != text::TAB {
+    if 10 <= v {
+        return text::past_number(s, at + 1, v);
+    }
+    if s[at + 1] != b'0' + v as u8 {
         return s.len();
     }
-    if v < 10 {
-        if s[at + 1] != (48 + v) as u8 {
-            return s.len();
-        }
-        return at + 2;
-    }
-    text::past_number(s, at + 1, v)
+    at + 2
 }
 
 // The same of a set's field.
@@ -223,10 +177,7 @@ pub fn past_set(s: &[u8], at: usize, v: u64) -> usize
     requires { at ≤ length s.now }
     ensures { result ≡ past s.now at (9 ∷ form_text a_set v) }
 {
-    if s.len() - at < 2 {
-        return s.len();
-    }
-    if s[at] != text::TAB {
+    if s.len() - at < 2 || s[at] != text::TAB {
         return s.len();
     }
     text::past_half(s, at + 1, v)
@@ -247,40 +198,28 @@ pub fn number_at(s: &[u8], at: usize) -> Stood
     requires { at ≤ length s.now }
     ensures { result ≡ number_at s.now at }
 {
-    if s.len() - at < 2 {
+    if s.len() - at < 2 || s[at] != text::TAB || !s[at + 1].is_ascii_digit() {
         return unread(s);
     }
-    if s[at] != text::TAB {
-        return unread(s);
+    let mut value = (s[at + 1] - b'0') as u64;
+    if value == 0 {
+        return Stood { value, end: at + 2 };
     }
-    let first = s[at + 1];
-    if first < 48 {
-        return unread(s);
-    }
-    if 57 < first {
-        return unread(s);
-    }
-    let mut v = (first - 48) as u64;
-    let mut i = at + 2;
-    if v == 0 {
-        return Stood { value: 0, end: i };
-    }
-    while i < s.len() {
+    for i in at + 2..s.len() {
         let b = s[i];
-        if b < 48 {
-            return Stood { value: v, end: i };
+        if !b.is_ascii_digit() {
+            return Stood { value, end: i };
         }
-        if 57 < b {
-            return Stood { value: v, end: i };
-        }
-        let more = v * 10 + (b - 48) as u64;
+        let more = value * 10 + (b - b'0') as u64;
         if NO_NUMBER <= more {
-            return Stood { value: v, end: i };
+            return Stood { value, end: i };
         }
-        v = more;
-        i += 1;
+        value = more;
     }
-    Stood { value: v, end: i }
+    Stood {
+        value,
+        end: s.len(),
+    }
 }
 
 // The same of a field that is 0 or 1.
@@ -288,26 +227,20 @@ pub fn yes_at(s: &[u8], at: usize) -> Stood
     requires { at ≤ length s.now }
     ensures { result ≡ yes_at s.now at }
 {
-    if s.len() - at < 2 {
+    if s.len() - at < 2 || s[at] != text::TAB {
         return unread(s);
     }
-    if s[at] != text::TAB {
-        return unread(s);
-    }
-    let b = s[at + 1];
-    if b == 48 {
-        return Stood {
+    match s[at + 1] {
+        b'0' => Stood {
             value: 0,
             end: at + 2,
-        };
-    }
-    if b == 49 {
-        return Stood {
+        },
+        b'1' => Stood {
             value: 1,
             end: at + 2,
-        };
+        },
+        _ => unread(s),
     }
-    unread(s)
 }
 
 // The same of a field that is a number, or the word that stands where no number does, given with its tab.
@@ -315,11 +248,11 @@ pub fn word_at(s: &[u8], at: usize, word: &[u8]) -> Stood
     requires { at ≤ length s.now }
     ensures { result ≡ word_at word.now s.now at }
 {
-    let p = text::past_bytes(s, at, word);
-    if p < s.len() {
+    let end = text::past_bytes(s, at, word);
+    if end < s.len() {
         return Stood {
             value: NO_NUMBER,
-            end: p,
+            end,
         };
     }
     number_at(s, at)
@@ -330,22 +263,22 @@ pub fn set_at(s: &[u8], at: usize) -> Stood
     requires { at ≤ length s.now }
     ensures { result ≡ set_at s.now at }
 {
-    let p = text::past_bytes(s, at, b"\t0000000000000000");
-    if p < s.len() {
-        return Stood { value: 0, end: p };
+    let empty = text::past_bytes(s, at, b"\t0000000000000000");
+    if empty < s.len() {
+        return Stood {
+            value: 0,
+            end: empty,
+        };
     }
-    if s.len() - at < 1 + logs::SET_DIGITS {
+    if s.len() - at < 1 + logs::SET_DIGITS || s[at] != text::TAB {
         return unread(s);
     }
-    if s[at] != text::TAB {
-        return unread(s);
-    }
-    let e = at + 1 + logs::SET_DIGITS;
-    let SetField::Is(n) = text::read_set(&s[at + 1..e], logs::SET_DIGITS) else {
-        return unread(s);
-    };
-    Stood {
-        value: n.low,
-        end: e,
+    let end = at + 1 + logs::SET_DIGITS;
+    match text::read_set(&s[at + 1..end], logs::SET_DIGITS) {
+        Some(set) => Stood {
+            value: set.low,
+            end,
+        },
+        None => unread(s),
     }
 }

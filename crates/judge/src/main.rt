@@ -3,10 +3,11 @@
 #![tactic(auto)]
 
 ghost use Rattle.std.specs.Prelude.{◌≤◌, length};
-ghost use Rattle.prepared.specs.Prepared.{Prepared};
+ghost use Rattle.prepared.specs.Held.{held};
 ghost use Rattle.table.specs.Checks.{Passes};
 ghost use Rattle.streaming.specs.Turns.{most_block};
 
+use prepared::Component;
 use std::io;
 use std::io::{Read, Write};
 use table::Table;
@@ -22,24 +23,20 @@ const ROOM: usize = 172032;
 fn judge_blocks<R: Read, W: Write>(
     input: &mut R,
     output: &mut W,
-    rows: &[u32],
-    index: &[u32],
+    component: &Component,
     block: &mut [u8],
     start: usize,
     last: bool,
 ) -> io::Result<()>
-    requires { Prepared rows.now index.now × (start ≤ length block.old) × (length block.old ≤ most_block) }
+    requires { (start ≤ length block.old) × (length block.old ≤ most_block) }
 {
     let mut out = [0u8; ROOM];
     let mut g = engine::fresh_going();
     let mut have = start;
     let mut ended = last;
-    let mut turns = 0;
-    while turns < blocks::BLOCKS {
-        turns += 1;
-        let turn = streaming::judge_block(rows, index, block, have, ended, g, &mut out);
-        let told = turn.told;
-        output.write_all(&out[..told])?;
+    for turns in 0..blocks::BLOCKS {
+        let turn = streaming::judge_block(component, block, have, ended, g, &mut out);
+        output.write_all(&out[..turn.told])?;
         if turn.over {
             return Ok(());
         }
@@ -63,9 +60,8 @@ fn judge_log<R: Read, W: Write>(
 ) -> io::Result<()>
     requires { Passes t × (have ≤ length block.old) × (length block.old ≤ most_block) }
 {
-    let index = preparing::index_of(t);
-    let rows = t.rows;
-    judge_blocks(input, output, &rows, &index, block, have, ended)
+    let component = preparing::prepare(t);
+    judge_blocks(input, output, &component, block, have, ended)
 }
 
 fn main(rt: HostRuntime) -> io::Result<()> {
@@ -74,14 +70,17 @@ fn main(rt: HostRuntime) -> io::Result<()> {
     let mut out = [0u8; OPENING];
     let mut block = [0u8; blocks::BLOCK];
     let start = blocks::read_start(&mut input, &mut block)?;
-    let have = start.have;
-    let opened = streaming::open_table(&mut block, have, &mut out);
-    let told = opened.told;
-    let held = opened.held;
-    let t = opened.table;
-    output.write_all(&out[..told])?;
-    if opened.fine {
-        judge_log(&mut input, &mut output, t, &mut block, held, start.ended)?;
+    let opened = streaming::open_table(&mut block, start.have, &mut out);
+    output.write_all(&out[..opened.told])?;
+    if let Some(table) = opened.table {
+        judge_log(
+            &mut input,
+            &mut output,
+            table,
+            &mut block,
+            opened.held,
+            start.ended,
+        )?;
     }
     Ok(())
 }

@@ -9,14 +9,14 @@ use native.Mathlib.Omega.{arith}
 use borrow.Author.Tests.{leb-true, leb-false, lt-ltb}
 use lib.ListN.{length, length-append}
 use lib.Dec.{leb, eqb}
+use Rattle.std.specs.Prelude.{Option, Some, None}
 use Rattle.text.proofs.Picks.{cases, false_true}
 use Rattle.model.specs.Tests.{accepted}
 use Rattle.model.specs.Tables.{Table}
 use Rattle.model.specs.Rules.{refusal, next}
 use Rattle.model.specs.Cycles.{Verdict, none, kept, dropped, verdict}
 use Rattle.model.specs.declared.State.{State}
-use Rattle.model.specs.declared.Line.{Line}
-use Rattle.model.specs.declared.Line.TheVariants as line
+use Rattle.model.specs.declared.Step.{Step}
 use Rattle.logs.specs.Lines.{longest_line, longest_row, set_digits, read_step}
 use Rattle.saved.specs.Rows.{begins_row}
 use Rattle.entries.specs.Entries.{row_number, row_refusal, resumed}
@@ -76,7 +76,7 @@ pub record Account (K : Table) (s : State) (c : Tally) (room : ℕ) (ps : List (
   pub short : (k : Cycle) → p.stop ≡ Closed k → room < length p.text + length (cycle_text k)
 
 -- a line over 63 bytes with its newline is no step
-long_bad : (p q : List ℕ) → longest_row ≤ length p → read_step set_digits (p ++ q) ≡ line.Bad
+long_bad : (p q : List ℕ) → longest_row ≤ length p → read_step set_digits (p ++ q) ≡ None
 unfolding read_step
 long_bad p q h = let l : longest_line < length (p ++ q) + 1 = omega (arith, length-append p q) in rw (lt-ltb _ _ l)
 
@@ -158,10 +158,10 @@ module _ (K : Table) (R : RowLaws K) where
       (λ h. rw h (at_full k e (leb-false _ _ h)))
   on_verdict_lem dropped s c room w d p q ps go e t = at_step e (t room)
 
-  on_line_lem : (l : Line) (s : State) (c : Tally) (room : ℕ) (p q : List ℕ) (ps : List (List ℕ)) → read_step set_digits p ≡ l
+  on_line_lem : (l : Option Step) (s : State) (c : Tally) (room : ℕ) (p q : List ℕ) (ps : List (List ℕ)) → read_step set_digits p ≡ l
       → ((w : State) (d : Tally) (n : ℕ) → Account K w d n (q ∷ ps) (played K w d n (q ∷ ps)))
       → Account K s c room (p ∷ q ∷ ps) (on_line K s c room p l (p ∷ q ∷ ps) (q ∷ ps) (λ w d n. played K w d n (q ∷ ps)))
-  on_line_lem line.Bad s c room p q ps e go =
+  on_line_lem None s c room p q ps e go =
       let u = resumed K s c p in
       cases (begins_row p)
       (λ b. rw b
@@ -171,7 +171,7 @@ module _ (K : Table) (R : RowLaws K) where
       (go u.state u.tally room)))
       (λ h. rw h (at_line s c room p q ps u.number (λ r rs. row_refused K R s c p r rs e b h)))))
       (λ b. rw b (at_line s c room p q ps 11 (λ r rs. line_bad K R s c p r rs e b)))
-  on_line_lem (line.Is x) s c room p q ps e go =
+  on_line_lem (Some x) s c room p q ps e go =
       let v = verdict K s x in
       let w = next K s x in
       let d = tallied K s x c in

@@ -6,12 +6,10 @@ use mathlib.Core.Path.{◌≡◌, refl, ap, ◌∙◌}
 use native.Mathlib.Omega.{arith}
 use lib.Dec.{T, leb, leb→le, eqb, eqb→eq}
 use lib.ListN.{length, get_or, length-append}
-use borrow.Author.Tests.{le-leb, lt-leb}
+use Rattle.std.specs.Prelude.{Option, Some, None}
 use Rattle.text.specs.Parts.{split_on, join_on}
 use Rattle.text.specs.Words.{word_in, word_at}
 use Rattle.text.specs.Fields.{most_digits}
-use Rattle.text.specs.declared.Number.TheVariants as number
-use Rattle.text.specs.declared.Word.TheVariants as word
 use Rattle.text.proofs.Picks.{cases}
 use Rattle.text.proofs.Parts.{join_split}
 use Rattle.text.proofs.Words.{word_read}
@@ -29,8 +27,6 @@ use Rattle.model.specs.declared.State.{State}
 use Rattle.model.specs.declared.TaskStep.TheVariants.{St, Fm}
 use Rattle.model.specs.declared.Step.{Step}
 use Rattle.model.specs.declared.Step.TheVariants.{Wait, Sm, OfTask, OfAct}
-use Rattle.model.specs.declared.Line.{Line}
-use Rattle.model.specs.declared.Line.TheVariants.{Is, Bad}
 use Rattle.model.proofs.Balance.{balance_from, fresh_managing}
 use Rattle.model.proofs.Tests.{T_true, true_T, and_r, and_both, each_at}
 use Rattle.model.proofs.Formed.{Formed, formed}
@@ -111,10 +107,10 @@ rows_length K F (x ∷ xs) s S ok =
     rw (rows_more v rs) (omega (arith, length-append (verdict_text v) (rows_text rs), step_row K F s S x acc, kept_more v 0 rs, rows_length K F xs (next K s x) (step_keeps K F s S x acc) now.1))
 
 -- how long the fields and the word of a step's line are
-number_length : (p : List ℕ) (v : ℕ) → a_number p ≡ number.Is v → 1 ≤ length p
+number_length : (p : List ℕ) (v : ℕ) → a_number p ≡ Some v → 1 ≤ length p
 number_length p v u = omega (arith, ap length (digits_read most_digits p v u).0, length_digits v, (width_within v).0)
 
-word_length : (w : List ℕ) (k : ℕ) → word_in step_words w ≡ word.Is k → 2 ≤ length w
+word_length : (w : List ℕ) (k : ℕ) → word_in step_words w ≡ Some k → 2 ≤ length w
 unfolding each word_at
 word_length w k u =
     let r = word_read step_words w k u in
@@ -170,13 +166,13 @@ steps_cost K (p ∷ q ∷ ps) s = rw length-append (go (read_step set_digits p) 
         → taken K s (x ∷ xs) ≤ length p + length (10 ∷ join_on 10 (q ∷ ps))
     more x xs h l = omega (arith, kept_more (verdict K s x) 0 (kept_in K (next K s x) xs), closes_one (verdict K s x), ap one (verdict_at_fm K s x))
 
-    go : (l : Line) → read_step set_digits p ≡ l → ((w : State) → taken K w (steps_of K w (entries_in K (q ∷ ps))) ≤ length (join_on 10 (q ∷ ps)))
+    go : (l : Option Step) → read_step set_digits p ≡ l → ((w : State) → taken K w (steps_of K w (entries_in K (q ∷ ps))) ≤ length (join_on 10 (q ∷ ps)))
         → taken K s (steps_of K s (entry_by K p l ∷ entries_in K (q ∷ ps))) ≤ length p + length (10 ∷ join_on 10 (q ∷ ps))
-    go Bad e f =
+    go None e f =
         cases (begins_row p)
         (λ b. rw b (cases (accepted (row_refusal K s p)) (λ a. rw a (omega (arith, f s))) (λ a. rw a (omega arith))))
         (λ b. rw b (omega arith))
-    go (Is x) e f =
+    go (Some x) e f =
         cases (accepted (refusal K s x))
         (λ a. rw a (more x (steps_of K (next K s x) (entries_in K (q ∷ ps))) (shaped costs x p e) (f (next K s x))))
         (λ a. rw a (omega arith))
@@ -267,11 +263,3 @@ module _ (K : Table) (wf : T (wellformed K)) (R : RowLaws K) (log : List ℕ) wh
   surely_holds room t =
       let both = and_both (leb 202 room) _ t in
       omega (arith, leb→le 202 room both.0, leb→le (length log / 44) ((room - 202) / 75) both.1, text_bound)
-
--- whether a buffer surely holds a report, by the code's tests
-module _ (room bytes : ℕ) where
-  pub surely_not : room < 202 → false ≡ surely room bytes
-  surely_not h = rw (lt-leb _ _ h)
-
-  pub surely_by : 202 ≤ room → leb (bytes / 44) ((room - 202) / 75) ≡ surely room bytes
-  surely_by h = rw (le-leb _ _ h)

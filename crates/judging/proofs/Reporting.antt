@@ -2,27 +2,26 @@
 use Prim.Native.Nat.{ℕ, ◌+◌, ◌-◌, ◌≤◌, ◌<◌}
 use mathlib.Core.Path.{◌≡◌, refl, sym, ap, subst, subst⁻¹, ◌∙◌}
 use mathlib.Core.List.{List, ◌++◌}
-use mathlib.Core.Bool.{Bool, true, false, not}
+use mathlib.Core.Bool.{true, false}
 use native.Mathlib.Omega.{arith}
 use lib.ListN.{length, length-append}
 use lib.Seq.{length-sets}
 use lib.Dec.{T, leb}
-use borrow.Author.Tests.{le-leb, lt-leb, leb-true, leb-false, not-true, not-false}
+use borrow.Author.Tests.{le-leb, lt-leb}
 use Rattle.text.specs.Put.{Put}
+use Rattle.text.proofs.Picks.{order}
 use Rattle.text.proofs.Puts.{put_fits}
 use Rattle.model.specs.Tables.{Table}
 use Rattle.model.specs.States.{fresh}
 use Rattle.model.specs.Cycles.{refused_report}
 use Rattle.model.proofs.Tests.{true_T}
-use Rattle.table.specs.Checks.{Said, numbers_of, says, Passes}
+use Rattle.table.specs.Checks.{Said, accepts, refused, Passes}
 use Rattle.table.specs.Tables.{table_of}
 use Rattle.table.specs.Texts.{read_table}
-use Rattle.table.specs.declared.Read.{Read}
-use Rattle.table.specs.declared.Answer.TheVariants.{Fine}
-use Rattle.table.specs.declared.Answer.TheVariants as answer
-use Rattle.table.proofs.Built.{fine_accepts}
+use Rattle.table.specs.declared.Table as tables
 use Rattle.table.proofs.Trips.{read_checks}
-use Rattle.prepared.specs.Prepared.{table_in, Prepared}
+use Rattle.prepared.specs.Held.{held}
+use Rattle.prepared.specs.declared.component.Component.{Component}
 use Rattle.entries.proofs.Owning.{RowLaws, row_laws}
 use Rattle.report.specs.Rows.{numbers_text, line_text, sum_word, head_text, cycle_text, rows_text, sum_numbers, sum_text}
 use Rattle.report.specs.declared.Cycle.{Cycle}
@@ -42,17 +41,13 @@ use Rattle.judging.proofs.Telling.{tell, log_text_lem}
 use Rattle.judging.proofs.Accounts.{pending, none_pending, run_account, run_tells}
 use Rattle.judging.proofs.Bounds.{surely_holds}
 
--- what a `state` row is under a prepared table
-pub rows_of : {rows index : List ℕ} → Prepared rows index → RowLaws (table_in rows index)
-rows_of {rows} {index} p = row_laws (table_in rows index) (true_T _ p.formed)
+-- what a `state` row is under a component
+pub rows_of : (k : Component) → RowLaws (held k)
+rows_of k = row_laws (held k) (true_T _ k.prepared.formed)
 
 -- a text that does not fit is not written
 put_over : (buf : List ℕ) (at : ℕ) (text : List ℕ) → length buf < at + length text → Put buf at text at buf
 put_over buf at text h = record { place = rw (lt-leb _ _ h); bytes = rw (lt-leb _ _ h) }
-
--- there is room where the test found it
-pub has_room : (n room : ℕ) {fit : Bool} → fit ≡ leb n room → not fit ≡ false → n ≤ room
-has_room n room {fit} e y = leb-true n room (sym e ∙ not-false fit y)
 
 -- a run that stopped at the log's end, at a refusal or at a row did not stop at a cycle
 pub not_closed : (w : Stop) → ((k : Cycle) → w ≡ Closed k → ⊥) → is_closed w ≡ false
@@ -99,13 +94,13 @@ pub roomy_lines : {c : Tally} {n : ℕ} → Roomy c n → lines_of c ≤ most_co
 roomy_lines h = omega (arith, h.lines)
 
 module _ {K : Table} {log : List ℕ} {from : ℕ} {g : Going} {buf : List ℕ} {place : ℕ} {r : Ran} {after : List ℕ} (h : Plays K log from g buf place r after) where
-  -- less of the log is left behind a kept cycle
-  pub run_less : {k : Cycle} → r.stop ≡ Closed k → length log - r.at < length log - from
-  run_less c = omega (arith, h.runs.within, h.runs.inside, h.runs.onward (is_closed_lem c))
-
   -- the buffer keeps its length
   pub run_length : length after ≡ length buf
   run_length = ap length h.runs.bytes ∙ length-sets buf place h.runs.text
+
+-- the room left behind some bytes
+room_behind : (at w : ℕ) {n room : ℕ} → at ≤ room → at + w ≡ n → leb w (room - at) ≡ leb n room
+room_behind at w {n} {room} h e = order room n (λ l. lt-leb w (room - at) (omega arith) ∙ sym (lt-leb n room l)) (λ l. le-leb w (room - at) (omega arith) ∙ sym (le-leb n room l))
 
 log_width : (K : Table) (log : List ℕ) → length (log_text K log) ≡ 9 + length (tell K fresh no_tally (pieces log 0))
 log_width K log = ap length (log_text_lem K log) ∙ length-append head_text (tell K fresh no_tally (pieces log 0)) ∙ rw head_length
@@ -132,27 +127,27 @@ fitting_start K log room scratch g z e h l =
     record { told = rw e (sym (log_width K log)); fits = h; size = z; place = omega arith; within = s.1; ready = s.0; roomy = s.2 }
 
 module _ {K : Table} (R : RowLaws K) {log : List ℕ} {room : ℕ} {scratch : List ℕ} {g : Going} {at filled width : ℕ} (f : Fitting K log room scratch g at filled width)
-    {r : Ran} {after : List ℕ} (h : Plays K log at g scratch filled r after) (fit : Bool) (e : fit ≡ leb (width + r.filled) room) where
+    {r : Ran} {after : List ℕ} (h : Plays K log at g scratch filled r after) where
   still : width + r.filled + length (pending r.stop ++ tell K r.going.state r.going.tally (pieces log r.at)) ≡ length (log_text K log)
   still =
       let t : width + filled + length (h.runs.text ++ (pending r.stop ++ tell K r.going.state r.going.tally (pieces log r.at))) ≡ length (log_text K log) = rw (run_tells K R h) at f.told in
       omega (arith, h.runs.filled, length-append h.runs.text (pending r.stop ++ tell K r.going.state r.going.tally (pieces log r.at)))
 
   -- the rows do not fit
-  pub fitting_short : not fit ≡ true → false ≡ leb (length (log_text K log)) room
-  fitting_short n = sym (lt-leb (length (log_text K log)) room (omega (arith, leb-false (width + r.filled) room (sym e ∙ not-true fit n), still)))
+  pub fitting_short : room - width < r.filled → false ≡ leb (length (log_text K log)) room
+  fitting_short n = sym (lt-leb (length (log_text K log)) room (omega (arith, f.fits, still)))
 
   -- they do, and the `sum` row decides
-  pub fitting_end : is_closed r.stop ≡ false → (n : ℕ) → n ≡ refusal_of r.stop → (ns : List ℕ) → ns ≡ sum_numbers (sum_of K r.going.state r.going.tally n)
-      → (w : ℕ) → w ≡ 3 + length (numbers_text ns) → (last : Bool) → last ≡ leb (width + r.filled + w) room → last ≡ leb (length (log_text K log)) room
-  fitting_end c n p ns q w l last d =
+  pub fitting_end : r.filled ≤ room - width → is_closed r.stop ≡ false → (n : ℕ) → n ≡ refusal_of r.stop → (ns : List ℕ) → ns ≡ sum_numbers (sum_of K r.going.state r.going.tally n)
+      → (w : ℕ) → w ≡ 3 + length (numbers_text ns) → leb w (room - (width + r.filled)) ≡ leb (length (log_text K log)) room
+  fitting_end y c n p ns q w l =
       let s : length (sum_text (sum_of K r.going.state r.going.tally n)) ≡ w = line_length sum_word _ ∙ rw (← q) (sym l) in
       let t : length (tell K r.going.state r.going.tally (pieces log r.at)) ≡ w = ap length ((run_account K R h).ends c) ∙ rw (← p) s in
       let u : width + r.filled + w ≡ length (log_text K log) = rw (none_pending r.stop _ c, t) at still in
-      d ∙ rw u
+      room_behind (width + r.filled) w (omega (arith, f.fits)) u
 
   -- they do, and the row of a kept cycle is the next to be measured
-  fitting_more : not fit ≡ false → {k : Cycle} → r.stop ≡ Closed k → {more : ℕ} {out : List ℕ} → Put after 0 (cycle_text k) more out
+  pub fitting_more : r.filled ≤ room - width → {k : Cycle} → r.stop ≡ Closed k → {more : ℕ} {out : List ℕ} → Put after 0 (cycle_text k) more out
       → Fitting K log room out r.going r.at more (width + r.filled)
   fitting_more y {k} c {more} p =
       let t : width + r.filled + length (cycle_text k ++ tell K r.going.state r.going.tally (pieces log r.at)) ≡ length (log_text K log) = rw c at still in
@@ -160,19 +155,13 @@ module _ {K : Table} (R : RowLaws K) {log : List ℕ} {room : ℕ} {scratch : Li
       let w = put_fits (omega (arith, row_most k)) p in
       record {
         told = omega (arith, w.0, length-append (cycle_text k) (tell K r.going.state r.going.tally (pieces log r.at)));
-        fits = has_room (width + r.filled) room e y;
+        fits = omega (arith, f.fits);
         size = put_length p ∙ z;
         place = omega (arith, w.0, put_length p, row_most k);
         within = h.runs.inside;
         ready = h.runs.ready;
         roomy = h.runs.roomy;
       }
-
--- the same under a prepared table
-pub fitting_onward : {rows index log scratch : List ℕ} {room at filled width : ℕ} {g : Going} → Prepared rows index → Fitting (table_in rows index) log room scratch g at filled width
-    → {r : Ran} {after : List ℕ} → Plays (table_in rows index) log at g scratch filled r after → (fit : Bool) → fit ≡ leb (width + r.filled) room → not fit ≡ false
-    → {k : Cycle} → r.stop ≡ Closed k → {more : ℕ} {out : List ℕ} → Put after 0 (cycle_text k) more out → Fitting (table_in rows index) log room out r.going r.at more (width + r.filled)
-fitting_onward P f h fit e y c p = fitting_more (rows_of P) f h fit e y c p
 
 -- a report written into a buffer that holds it
 module _ (K : Table) (R : RowLaws K) (log buf : List ℕ) (room : length (log_text K log) ≤ length buf) (at : ℕ) (b₁ : List ℕ) (p : Put buf 0 head_text at b₁) where
@@ -213,32 +202,21 @@ module _ (K : Table) (R : RowLaws K) (log buf : List ℕ) (room : length (log_te
         → Put buf 0 (log_text K log) r b₃
     report_put n q r b₃ z = writing_last left (rw q at z)
 
--- the report on a log, judged against a table laid out as K, which is L
-module _ {K L : Table} (e : K ≡ L) (log buf : List ℕ) where
-  -- it does not fit
-  pub log_none : (fit : Bool) → fit ≡ leb (length (log_text K log)) (length buf) → not fit ≡ true → Put buf 0 (log_text L log) 0 buf
-  log_none fit q n = rw (← e) (put_over buf 0 (log_text K log) (omega (arith, leb-false (length (log_text K log)) (length buf) (sym q ∙ not-true fit n))))
-
-  -- it is written
-  pub log_put : {r : ℕ} {after : List ℕ} → Put buf 0 (log_text K log) r after → Put buf 0 (log_text L log) r after
-  log_put p = rw e at p
-
 -- it surely fits
-pub log_surely : {rows index : List ℕ} → Prepared rows index → (log : List ℕ) (room : ℕ) (fit : Bool) → fit ≡ surely room (length log) → not fit ≡ false
-    → length (log_text (table_in rows index) log) ≤ room
-log_surely {rows} {index} p log room fit e y = surely_holds (table_in rows index) (true_T _ p.formed) (rows_of p) log room (true_T _ (sym e ∙ not-false fit y))
+pub log_surely : (k : Component) (log : List ℕ) (room : ℕ) → surely room (length log) ≡ true → length (log_text (held k) log) ≤ room
+log_surely k log room y = surely_holds (held k) (true_T _ k.prepared.formed) (rows_of k) log room (true_T _ y)
 
 -- the report on a table's text and a log
-module _ (s log : List ℕ) (r : Read) (e : says r ≡ read_table s) where
+module _ (s : List ℕ) where
   -- a table that was read is accepted
-  pub read_fine : r.answer ≡ Fine → Passes r.table
-  read_fine u = ap (λ (x : Said). x.numbers) (read_checks s r.table (sym e ∙ fine_accepts (says r) (ap numbers_of u)))
+  pub read_fine : {t : tables.Table} → accepts t ≡ read_table s → Passes t
+  read_fine {t} e = ap (λ (x : Said). x.numbers) (read_checks s t (sym e))
 
-  module _ {buf after : List ℕ} {n : ℕ} where
-    pub judged_fine : r.answer ≡ Fine → Put buf 0 (log_text (table_of r.table) log) n after → Put buf 0 (report_on s log) n after
+  module _ (log : List ℕ) {buf after : List ℕ} {n : ℕ} where
+    pub judged_fine : {t : tables.Table} → accepts t ≡ read_table s → Put buf 0 (log_text (table_of t) log) n after → Put buf 0 (report_on s log) n after
     unfolding report_on
-    judged_fine u p = rw (← e, u) p
+    judged_fine e p = rw (← e) p
 
-    pub judged_refused : (m l : ℕ) → r.answer ≡ answer.Refused m l → Put buf 0 (report_text (refused_report m l)) n after → Put buf 0 (report_on s log) n after
+    pub judged_refused : {m k l : ℕ} → refused m l ≡ read_table s → k ≡ m → Put buf 0 (report_text (refused_report k l)) n after → Put buf 0 (report_on s log) n after
     unfolding report_on
-    judged_refused m l u p = rw (← e, u) p
+    judged_refused e q p = rw (← e, ← q) p

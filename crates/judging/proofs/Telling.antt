@@ -8,6 +8,7 @@ use native.Mathlib.Omega.{arith}
 use lib.ListN.{length}
 use lib.Dec.{eqb}
 use borrow.Author.Tests.{ne_eqb}
+use Rattle.std.specs.Prelude.{Option, Some, None}
 use Rattle.text.specs.Parts.{pick, split_on}
 use Rattle.text.proofs.Picks.{cases, false_true}
 use Rattle.model.specs.Tests.{◌and◌, accepted}
@@ -18,8 +19,6 @@ use Rattle.model.specs.Logs.{reached, is_wait, most}
 use Rattle.model.specs.Cycles.{KeptRow, SumRow, Verdict, none, kept, dropped, verdict, with_kept, kept_in, drops, dropped_in, opened_in, opens, managing, Entry, step, row, neither, steps_of, lines_done, stop_on, line_of, report_of, report}
 use Rattle.model.specs.declared.State.{State}
 use Rattle.model.specs.declared.Step.{Step}
-use Rattle.model.specs.declared.Line.{Line}
-use Rattle.model.specs.declared.Line.TheVariants as line
 use Rattle.model.proofs.Balance.{fresh_managing}
 use Rattle.logs.specs.Lines.{set_digits, read_step}
 use Rattle.logs.proofs.Shapes.{no_step_lem}
@@ -170,13 +169,13 @@ module _ (K : Table) (s : State) (c : Tally) where
   tell_later (p ∷ q ∷ ps) e = rw e
 
 -- what the first line says
-first_entry : (K : Table) (l : Line) (p q : List ℕ) (ps : List (List ℕ)) → read_step set_digits p ≡ l → entries_in K (p ∷ q ∷ ps) ≡ entry_by K p l ∷ entries_in K (q ∷ ps)
+first_entry : (K : Table) (l : Option Step) (p q : List ℕ) (ps : List (List ℕ)) → read_step set_digits p ≡ l → entries_in K (p ∷ q ∷ ps) ≡ entry_by K p l ∷ entries_in K (q ∷ ps)
 unfolding entries_in
 first_entry K l p q ps e = ap (λ m. entry_by K p m ∷ entries_in K (q ∷ ps)) e
 
-pub row_entry : (K : Table) (p q : List ℕ) (ps : List (List ℕ)) → read_step set_digits p ≡ line.Bad → begins_row p ≡ true → entries_in K (p ∷ q ∷ ps) ≡ row (λ s. row_refusal K s p) ∷ entries_in K (q ∷ ps)
+pub row_entry : (K : Table) (p q : List ℕ) (ps : List (List ℕ)) → read_step set_digits p ≡ None → begins_row p ≡ true → entries_in K (p ∷ q ∷ ps) ≡ row (λ s. row_refusal K s p) ∷ entries_in K (q ∷ ps)
 unfolding entry_by
-row_entry K p q ps e b = first_entry K line.Bad p q ps e ∙ rw b
+row_entry K p q ps e b = first_entry K None p q ps e ∙ rw b
 
 -- a row that does not read, or is not sound, is refused with that number in every state
 number_first : (K : Table) (s : State) (p : List ℕ) → accepted (row_number K p) ≡ false → row_refusal K s p ≡ row_number K p
@@ -195,12 +194,12 @@ module _ (K : Table) (R : RowLaws K) (s : State) (c : Tally) (p q : List ℕ) (p
   unfolding tell
   plain f e u = rw f (ap (tell_lines K s c) u)
 
-  module _ (x : Step) (e : read_step set_digits p ≡ line.Is x) where
+  module _ (x : Step) (e : read_step set_digits p ≡ Some x) where
     said : tell K s c (p ∷ q ∷ ps) ≡ tell_lines K s c (step x ∷ entries_in K (q ∷ ps))
     unfolding entry_by
     said =
         let b : sets K p ≡ false = cases (begins_row p) (λ b. absurd (no_step_lem (sym (R.no_step p b) ∙ e))) (λ b. rw b) in
-        plain (and_false (eqb (lines_of c) 0) (sets K p) b) (step x) (first_entry K (line.Is x) p q ps e)
+        plain (and_false (eqb (lines_of c) 0) (sets K p) b) (step x) (first_entry K (Some x) p q ps e)
 
     -- a refused step
     pub step_refused : accepted (refusal K s x) ≡ false → tell K s c (p ∷ q ∷ ps) ≡ sum_text (sum_of K s c (refusal K s x))
@@ -213,11 +212,11 @@ module _ (K : Table) (R : RowLaws K) (s : State) (c : Tally) (p q : List ℕ) (p
         said ∙ tell_accepted K s c x (entries_in K (q ∷ ps)) h
         ∙ ap (λ l. verdict_text (verdict K s x) ++ l) (sym (tell_later K (next K s x) (tallied K s x c) (q ∷ ps) n))
 
-  module _ (e : read_step set_digits p ≡ line.Bad) where
+  module _ (e : read_step set_digits p ≡ None) where
     -- a line that is neither step nor row
     pub line_bad : begins_row p ≡ false → tell K s c (p ∷ q ∷ ps) ≡ sum_text (sum_of K s c 11)
     unfolding entry_by
-    line_bad b = plain (and_false (eqb (lines_of c) 0) (sets K p) (rw b)) neither (first_entry K line.Bad p q ps e ∙ rw b) ∙ tell_bad K s c (entries_in K (q ∷ ps))
+    line_bad b = plain (and_false (eqb (lines_of c) 0) (sets K p) (rw b)) neither (first_entry K None p q ps e ∙ rw b) ∙ tell_bad K s c (entries_in K (q ∷ ps))
 
     module _ (b : begins_row p ≡ true) where
       -- a row that sets nothing is refused with its number

@@ -7,10 +7,10 @@ use lib.ListN.{length, take}
 use lib.Seq.{length-take-le}
 use lib.Dec.{ltb, eqb}
 use borrow.Author.Tests.{ltb-false, eqb-false}
+use Rattle.std.specs.Prelude.{Some}
 use Rattle.text.specs.Parts.{first_at}
 use Rattle.text.specs.Words.{same_list}
 use Rattle.text.specs.Fields.{most_digits, ether_value, ether_word}
-use Rattle.text.specs.declared.Number.TheVariants as number
 use Rattle.text.proofs.Picks.{cases, order, picked, passed}
 use Rattle.text.proofs.Numbers.{number_below}
 use Rattle.text.proofs.Sets.{Held, set_text_read}
@@ -21,7 +21,6 @@ use Rattle.model.specs.declared.ActStep.{ActStep}
 use Rattle.model.specs.declared.ActStep.TheVariants.{Lm, Ia, Ea, Cx, Fa}
 use Rattle.model.specs.declared.Step.{Step}
 use Rattle.model.specs.declared.Step.TheVariants.{Wait, Sm, OfTask, OfAct}
-use Rattle.model.specs.declared.Line.TheVariants.{Is}
 use Rattle.logs.specs.Lines.{longest_line, a_place, read_step, read_line}
 use Rattle.logs.proofs.Shapes.{no_step_lem, either, Shapes, shaped}
 
@@ -45,10 +44,10 @@ Within d (Sm t n r) = (t < 10 ^ 10) × Held d n × Held d r
 Within d (OfTask t k) = t < 10 ^ 10
 Within d (OfAct a k) = (a < 10 ^ 10) × ActWithin k
 
-place_most : (p : List ℕ) (v : ℕ) → a_place p ≡ number.Is v → v ≤ ether_value
+place_most : (p : List ℕ) (v : ℕ) → a_place p ≡ Some v → v ≤ ether_value
 place_most p v u =
     cases (same_list p ether_word)
-    (λ e. let q : number.Is ether_value ≡ number.Is v = rw e at u in let z : ether_value ≡ v = cc in omega arith)
+    (λ e. let q : Some ether_value ≡ Some v = rw e at u in let z : ether_value ≡ v = cc in omega arith)
     (λ e. omega (arith, number_below most_digits p v (rw e at u)))
 
 target_within : (c : ℕ) → c ≤ ether_value → TargetWithin (target_of c)
@@ -71,14 +70,14 @@ within d = record {
 }
 
 -- a line that reads as a step, without its newline
-pub read_step_bounds : (d : ℕ) (s : List ℕ) (x : Step) → read_step d s ≡ Is x → (length s < 63) × Within d x
+pub read_step_bounds : (d : ℕ) (s : List ℕ) (x : Step) → read_step d s ≡ Some x → (length s < 63) × Within d x
 unfolding read_step
 read_step_bounds d s x u =
     let t = passed (ltb longest_line (length s + 1)) no_step_lem u in
     (omega (arith, ltb-false longest_line (length s + 1) t.0), shaped (within d) x s u)
 
 -- and with it
-pub read_line_bounds : (d : ℕ) (s : List ℕ) (x : Step) → read_line d s ≡ Is x → (length s ≤ 63) × Within d x
+pub read_line_bounds : (d : ℕ) (s : List ℕ) (x : Step) → read_line d s ≡ Some x → (length s ≤ 63) × Within d x
 unfolding read_line
 read_line_bounds d s x u =
     let t = picked (eqb (first_at s 0 10 + 1) (length s)) no_step_lem u in

@@ -1,16 +1,14 @@
 // A log's lines: each read as a step.
 #![tactic(auto)]
 
-ghost use Rattle.std.specs.Prelude.{◌≡◌, [], ◌∷◌, ◌+◌, ◌≤◌, ◌<◌, length, take, eqb};
-ghost use Rattle.text.specs.Parts.{pick, split_on, parts_from};
+ghost use Rattle.std.specs.Prelude.{◌≡◌, ◌+◌, ◌≤◌, ◌<◌, length, take};
+ghost use Rattle.text.specs.Parts.{split_on, parts_from};
 ghost use Rattle.text.specs.Words.{word_in};
 ghost use Rattle.text.specs.Fields.{behind};
-ghost use Rattle.text.specs.declared.Word.TheVariants.{Is, Unknown};
 ghost use Rattle.model.specs.Tables.{target_of};
-ghost use Rattle.logs.specs.Lines.{step_words, a_number, only, one_number, one_of, two_numbers, two_of, sets_line, manager_line, leaving_line, on_word, read_step, read_line};
+ghost use Rattle.logs.specs.Lines.{step_words, a_number, only, number_pair, sets_line, manager_line, leaving_line, on_word, read_step, read_line};
 
-use model::{ActStep, Line, Place, Step, TaskStep};
-use text::{Got, Number, SetField, Word};
+use model::{ActStep, Place, Step, TaskStep};
 
 // The longest line of a step, with its newline.
 const LONGEST_LINE: usize = 63;
@@ -21,129 +19,53 @@ pub const LONGEST_ROW: usize = 4095;
 // How many digits a set has. The readers take the number; whoever reads a line gives it.
 pub const SET_DIGITS: usize = 16;
 
-// The word of a number, where its last letter is the one read.
-fn ended(y: u8, last: u8, k: usize) -> Word
-    ensures { result ≡ pick (eqb y last) (Is k) Unknown }
-{
-    if y == last {
-        return Word::Is(k);
-    }
-    Word::Unknown
-}
-
-// The step word of two letters.
-fn two_letters(x: u8, y: u8) -> Word
-    ensures { result ≡ word_in step_words (x ∷ y ∷ []) }
-{
-    if x == b's' {
-        if y == b't' {
-            return Word::Is(1);
-        }
-        return ended(y, b'm', 2);
-    }
-    if x == b'l' {
-        return ended(y, b'm', 3);
-    }
-    if x == b'i' {
-        return ended(y, b'a', 4);
-    }
-    if x == b'e' {
-        return ended(y, b'a', 5);
-    }
-    if x == b'c' {
-        return ended(y, b'x', 6);
-    }
-    if x == b'f' {
-        if y == b'a' {
-            return Word::Is(7);
-        }
-        return ended(y, b'm', 8);
-    }
-    Word::Unknown
-}
-
-// What the only field behind the tab at a place says as a number.
-fn only_field(line: &[u8], at: usize) -> Number
+// What the only field behind the tab at a place, which is all that is left of the line, says as a number.
+fn only_field(line: &[u8], at: usize) -> Option<u64>
     requires { at ≤ length line.now }
     ensures { result ≡ only a_number (parts_from 9 line.now (at + 1)) }
 {
     if line.len() <= at {
-        return Number::Bad;
+        return None;
     }
-    let a = at + 1;
-    text::read_number(&line[a..], text::MOST_DIGITS)
+    text::read_number(&line[at + 1..], text::MOST_DIGITS)
 }
 
 // What the field behind the tab at a place says as a number, and where it ends.
-fn head_field(line: &[u8], at: usize) -> Got
+fn head_field(line: &[u8], at: usize) -> Option<(u64, usize)>
     requires { at ≤ length line.now }
     ensures { result ≡ behind a_number line.now at }
 {
     if line.len() <= at {
-        return Got::Bad;
+        return None;
     }
-    let a = at + 1;
-    let e = text::next_byte(line, a, text::TAB);
-    let Number::Is(v) = text::read_number(&line[a..e], text::MOST_DIGITS) else {
-        return Got::Bad;
-    };
-    Got::Is(v, e)
-}
-
-// The step of a word that takes one number.
-fn with_one(k: usize, a: u64) -> Step
-    ensures { result ≡ one_of k a }
-{
-    if k == 0 {
-        return Step::Wait(a);
-    }
-    if k == 1 {
-        return Step::OfTask(a as usize, TaskStep::St);
-    }
-    if k == 4 {
-        return Step::OfAct(a as usize, ActStep::Ia);
-    }
-    if k == 6 {
-        return Step::OfAct(a as usize, ActStep::Cx);
-    }
-    Step::OfTask(a as usize, TaskStep::Fm)
+    let start = at + 1;
+    let end = text::next_byte(line, start, text::TAB);
+    let number = text::read_number(&line[start..end], text::MOST_DIGITS)?;
+    Some((number, end))
 }
 
 // N and R of an `sm`, all that stands behind its task: two sets with a tab between them.
-fn read_sets(s: &[u8], t: u64, digits: usize) -> Line
+fn read_sets(s: &[u8], t: u64, digits: usize) -> Option<Step>
     ensures { result ≡ sets_line digits t (split_on 9 s.now) }
 {
-    if s.len() <= digits {
-        return Line::Bad;
+    if s.len() <= digits || s.len() - digits - 1 != digits || s[digits] != text::TAB {
+        return None;
     }
-    if s.len() - digits - 1 != digits {
-        return Line::Bad;
-    }
-    if s[digits] != text::TAB {
-        return Line::Bad;
-    }
-    let SetField::Is(n) = text::read_set(&s[..digits], digits) else {
-        return Line::Bad;
-    };
-    let SetField::Is(r) = text::read_set(&s[digits + 1..], digits) else {
-        return Line::Bad;
-    };
-    Line::Is(Step::Sm(t as usize, n, r))
+    let n = text::read_set(&s[..digits], digits)?;
+    let r = text::read_set(&s[digits + 1..], digits)?;
+    Some(Step::Sm(t as usize, n, r))
 }
 
 // `sm` task N R, behind its word.
-fn read_manager(line: &[u8], at: usize, digits: usize) -> Line
+fn read_manager(line: &[u8], at: usize, digits: usize) -> Option<Step>
     requires { at ≤ length line.now }
     ensures { result ≡ manager_line digits (parts_from 9 line.now (at + 1)) }
 {
-    let Got::Is(t, p) = head_field(line, at) else {
-        return Line::Bad;
-    };
-    if line.len() <= p {
-        return Line::Bad;
+    let (task, end) = head_field(line, at)?;
+    if line.len() <= end {
+        return None;
     }
-    let a = p + 1;
-    read_sets(&line[a..], t, digits)
+    read_sets(&line[end + 1..], task, digits)
 }
 
 // A codel's number or ether.
@@ -157,100 +79,81 @@ fn place_of(v: u64) -> Place
 }
 
 // `fa` A target, behind its word.
-fn read_leaving(line: &[u8], at: usize) -> Line
+fn read_leaving(line: &[u8], at: usize) -> Option<Step>
     requires { at ≤ length line.now }
     ensures { result ≡ leaving_line (parts_from 9 line.now (at + 1)) }
 {
-    let Got::Is(a, p) = head_field(line, at) else {
-        return Line::Bad;
-    };
-    if line.len() <= p {
-        return Line::Bad;
+    let (act, end) = head_field(line, at)?;
+    if line.len() <= end {
+        return None;
     }
-    let q = p + 1;
-    let Number::Is(c) = text::read_target(&line[q..]) else {
-        return Line::Bad;
-    };
-    Line::Is(Step::OfAct(a as usize, ActStep::Fa(place_of(c))))
+    let target = text::read_target(&line[end + 1..])?;
+    Some(Step::OfAct(act as usize, ActStep::Fa(place_of(target))))
 }
 
-// `lm` task A and `ea` A c, behind their words.
-fn read_two(line: &[u8], at: usize, k: usize) -> Line
+// The two fields behind the tab at a place, both numbers, as of `lm` task A and of `ea` A c. Inlined at both words: a call costs some sixty
+// instructions more on each such line.
+#[inline(always)]
+fn two_fields(line: &[u8], at: usize) -> Option<(u64, u64)>
     requires { at ≤ length line.now }
-    ensures { result ≡ two_numbers (parts_from 9 line.now (at + 1)) (two_of k) }
+    ensures { result ≡ number_pair (parts_from 9 line.now (at + 1)) }
 {
-    let Got::Is(a, p) = head_field(line, at) else {
-        return Line::Bad;
-    };
-    let Number::Is(b) = only_field(line, p) else {
-        return Line::Bad;
-    };
-    if k == 3 {
-        return Line::Is(Step::OfAct(b as usize, ActStep::Lm(a as usize)));
-    }
-    Line::Is(Step::OfAct(a as usize, ActStep::Ea(Place::Codel(b as usize))))
-}
-
-// The steps of one number, behind their words.
-fn read_one(line: &[u8], at: usize, k: usize) -> Line
-    requires { at ≤ length line.now }
-    ensures { result ≡ one_number (parts_from 9 line.now (at + 1)) (one_of k) }
-{
-    let Number::Is(a) = only_field(line, at) else {
-        return Line::Bad;
-    };
-    Line::Is(with_one(k, a))
+    let (first, end) = head_field(line, at)?;
+    let second = only_field(line, end)?;
+    Some((first, second))
 }
 
 // What a line says whose word has two letters.
-fn read_short(line: &[u8], digits: usize) -> Line
+fn read_short(line: &[u8], digits: usize) -> Option<Step>
     requires { 2 < length line.now }
     ensures { result ≡ on_word digits (word_in step_words (take 2 line.now)) (parts_from 9 line.now 3) }
 {
-    let Word::Is(k) = two_letters(line[0], line[1]) else {
-        return Line::Bad;
-    };
-    match k {
-        2 => read_manager(line, 2, digits),
-        3 | 5 => read_two(line, 2, k),
-        7 => read_leaving(line, 2),
-        _ => read_one(line, 2, k),
+    match (line[0], line[1]) {
+        (b's', b't') => only_field(line, 2).map(|task| Step::OfTask(task as usize, TaskStep::St)),
+        (b's', b'm') => read_manager(line, 2, digits),
+        (b'l', b'm') => {
+            two_fields(line, 2).map(|(task, act)| Step::OfAct(
+                act as usize,
+                ActStep::Lm(task as usize),
+            ))
+        }
+        (b'i', b'a') => only_field(line, 2).map(|act| Step::OfAct(act as usize, ActStep::Ia)),
+        (b'e', b'a') => {
+            two_fields(line, 2).map(|(act, codel)| Step::OfAct(
+                act as usize,
+                ActStep::Ea(Place::Codel(codel as usize)),
+            ))
+        }
+        (b'c', b'x') => only_field(line, 2).map(|act| Step::OfAct(act as usize, ActStep::Cx)),
+        (b'f', b'a') => read_leaving(line, 2),
+        (b'f', b'm') => only_field(line, 2).map(|task| Step::OfTask(task as usize, TaskStep::Fm)),
+        _ => None,
     }
 }
 
 // What a line says, without its newline, where sets have so many digits: its word has two letters or is `wait`.
-pub fn read_step(line: &[u8], digits: usize) -> Line
+pub fn read_step(line: &[u8], digits: usize) -> Option<Step>
     ensures { result ≡ read_step digits line.now }
 {
-    let n = line.len();
-    if LONGEST_LINE <= n {
-        return Line::Bad;
-    }
-    if n < 3 {
-        return Line::Bad;
+    if LONGEST_LINE <= line.len() || line.len() < 3 {
+        return None;
     }
     if line[2] == text::TAB {
         return read_short(line, digits);
     }
-    if n < 5 {
-        return Line::Bad;
+    if !line.starts_with(b"wait\t") {
+        return None;
     }
-    if !text::same(&line[..5], b"wait\t") {
-        return Line::Bad;
-    }
-    let Number::Is(a) = only_field(line, 4) else {
-        return Line::Bad;
-    };
-    Line::Is(Step::Wait(a))
+    Some(Step::Wait(only_field(line, 4)?))
 }
 
 // What the bytes of one line say, its newline with them.
-pub fn read_line(s: &[u8], digits: usize) -> Line
+pub fn read_line(s: &[u8], digits: usize) -> Option<Step>
     ensures { result ≡ read_line digits s.now }
 {
-    let e = text::next_byte(s, 0, text::NEWLINE);
-    if e + 1 != s.len() {
-        return Line::Bad;
+    let end = text::next_byte(s, 0, text::NEWLINE);
+    if end + 1 != s.len() {
+        return None;
     }
-    read_step(&s[..e], digits)
+    read_step(&s[..end], digits)
 }

@@ -1,4 +1,3 @@
 pub mod Listed
 pub mod Within
 pub mod Flags
-pub mod Answers

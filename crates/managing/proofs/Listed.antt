@@ -6,8 +6,7 @@ use Prim.Native.Nat.{ℕ, ◌+◌, ◌*◌, ◌≤◌, ◌<◌}
 use native.Mathlib.Omega.{arith}
 use lib.Dec.{eqb}
 use lib.ListN.{get_or, get_or-map}
-use borrow.Author.Tests.{eq-eqb, ne_eqb}
-use mir.Val.{bool_byte}
+use borrow.Author.Tests.{ne_eqb}
 use Rattle.model.specs.Tests.{◌and◌, ◌or◌, ◌implies◌, one, some}
 use Rattle.model.specs.Tables.{Table}
 use Rattle.model.specs.States.{no_act, act_at}
@@ -20,11 +19,6 @@ use Rattle.prepared.specs.Prepared.{table_in, begin_of, end_of, acts_at, Prepare
 use Rattle.prepared.proofs.Walks.{Passed, found, absent}
 use Rattle.rules.specs.Local.{empty_for}
 use Rattle.managing.specs.Listed.{listed_of, listed_in, none_by, empty_for_by}
-
--- a bool as a number is at most 1
-pub bool_most : (b : Bool) → bool_byte b ≤ 1
-bool_most true = omega arith
-bool_most false = omega arith
 
 -- in which of N and R an activity is
 pub listed_at_lem : (s : State) (a : ℕ) → get_or (listed_in s) a 0 ≡ listed_of (act_at s a)
@@ -53,9 +47,6 @@ listed_at listed a = not (eqb (get_or listed a 0) 0)
 pub listed_yes : (listed : List ℕ) (a : ℕ) → (get_or listed a 0 ≡ 0 → ⊥) → listed_at listed a ≡ true
 listed_yes listed a n = rw (ne_eqb (get_or listed a 0) 0 n)
 
-pub listed_no : (listed : List ℕ) (a : ℕ) → get_or listed a 0 ≡ 0 → listed_at listed a ≡ false
-listed_no listed a e = rw (eq-eqb (get_or listed a 0) 0 e)
-
 none_some : (K : Table) (listed : List ℕ) (t : ℕ) → none_by K listed t ≡ not (some K.nacts (λ a. eqb (K.task a) t and listed_at listed a))
 unfolding none_by
 none_some K listed t =
@@ -81,6 +72,3 @@ module _ {rows index : List ℕ} (P : Prepared rows index) (listed : List ℕ) (
   none_absent a l none =
       let q = absent (table_in rows index).nacts t from end (table_in rows index).task _ (listed_at listed) (λ a i. refl) (λ a i o. rw (b, n) (P.acts.outside t a h i o)) a l none in
       rw (none_some (table_in rows index) listed t, ← q)
-
-pub empty_is : (K : Table) (listed : List ℕ) (t : ℕ) (k z : TaskStep) (r : Bool) → k ≡ z → r ≡ empty_for_by K listed t z → r ≡ empty_for_by K listed t k
-empty_is K listed t k z r e q = rw e q

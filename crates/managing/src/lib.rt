@@ -3,86 +3,75 @@
 #![tactic(auto)]
 
 ghost use Rattle.std.specs.Prelude.{◌≡◌, ◌<◌, ◌≤◌, true, length};
+ghost use Rattle.model.specs.Refusals.{numbered};
 ghost use Rattle.model.specs.Rules.{within, listed};
-ghost use Rattle.prepared.specs.Prepared.{table_in, Prepared};
+ghost use Rattle.prepared.specs.Held.{held};
 ghost use Rattle.managing.specs.Listed.{listed_of, none_by, empty_for_by};
 ghost use Rattle.managing.specs.Managing.{sm_number};
 
-use model::{Act, Task, TaskStep};
+use model::{Act, Refusal, Task, TaskStep};
+use prepared::Component;
 use text::Set;
 
-// In which of N and R an activity is: 1 for N, 2 for R.
-pub fn listed_of(y: Act) -> usize
-    ensures { result ≡ listed_of y }
+// In which of N and R an activity is: 1 for N, 2 for R. It is one number, so that `fm` asks for both by one comparison.
+pub fn listed_of(act: Act) -> usize
+    ensures { result ≡ listed_of act }
 {
-    let n = y.run;
-    let r = y.halt;
-    n as usize + 2 * (r as usize)
+    usize::from(act.run) + 2 * usize::from(act.halt)
 }
 
 // Are N and R of a task empty?
-fn none_listed(rows: &[u32], index: &[u32], listed: &[usize], t: usize) -> bool
-    requires { Prepared rows.now index.now × (t < (table_in rows.now index.now).ntasks) × ((table_in rows.now index.now).nacts ≤ length listed.now) }
-    ensures { result ≡ none_by (table_in rows.now index.now) listed.now t }
+fn none_listed(component: &Component, listed: &[usize], task: usize) -> bool
+    requires { (task < (held component.now).ntasks) × ((held component.now).nacts ≤ length listed.now) }
+    ensures { result ≡ none_by (held component.now) listed.now task }
 {
-    let end = prepared::acts_end(rows, index, t);
-    let mut a = prepared::acts_begin(rows, index, t);
-    while a < end {
+    for a in component.acts_begin(task)..component.acts_end(task) {
         if listed[a] != 0 {
             return false;
         }
-        a += 1;
     }
     true
 }
 
 // What `fm` asks beside the record: are N and R of its task empty? Other steps ask nothing.
-pub fn is_empty_for(rows: &[u32], index: &[u32], listed: &[usize], t: usize, k: TaskStep) -> bool
-    requires { Prepared rows.now index.now × (t < (table_in rows.now index.now).ntasks) × ((table_in rows.now index.now).nacts ≤ length listed.now) }
-    ensures { result ≡ empty_for_by (table_in rows.now index.now) listed.now t k }
+pub fn is_empty_for(component: &Component, listed: &[usize], task: usize, step: TaskStep) -> bool
+    requires { (task < (held component.now).ntasks) × ((held component.now).nacts ≤ length listed.now) }
+    ensures { result ≡ empty_for_by (held component.now) listed.now task step }
 {
-    match k {
+    match step {
         TaskStep::St => true,
-        TaskStep::Fm => none_listed(rows, index, listed, t),
+        TaskStep::Fm => none_listed(component, listed, task),
     }
 }
 
 // Is a set within a task? Its activities stand together.
-pub fn is_within(rows: &[u32], index: &[u32], t: usize, n: Set) -> bool
-    requires { Prepared rows.now index.now × (t < (table_in rows.now index.now).ntasks) }
-    ensures { result ≡ within (table_in rows.now index.now) t n }
+pub fn is_within(component: &Component, task: usize, set: Set) -> bool
+    requires { (task < (held component.now).ntasks) }
+    ensures { result ≡ within (held component.now) task set }
 {
-    let begin = prepared::acts_begin(rows, index, t);
-    let end = prepared::acts_end(rows, index, t);
-    text::is_between(n, begin, end)
+    set.is_between(component.acts_begin(task), component.acts_end(task))
 }
 
-// `sm` on its task: 12 for a task that there is not or a set outside it, 13 unless the manager waits and the signal is set.
-pub fn sm_number(rows: &[u32], index: &[u32], t: usize, n: Set, r: Set, x: Task) -> u64
-    requires { Prepared rows.now index.now }
-    ensures { result ≡ sm_number (table_in rows.now index.now) t n r x }
+// Is `sm` accepted on its task? Not on a task that there is not or with a set outside it, and only where the manager waits and the signal is
+// set.
+pub fn check_sm(component: &Component, task: usize, n: Set, r: Set, x: Task) -> Result<(), Refusal>
+    ensures { numbered result ≡ sm_number (held component.now) task n r x }
 {
-    if prepared::tasks(rows, index) <= t {
-        return 12;
+    if task >= component.tasks()
+        || !is_within(component, task, n)
+        || !is_within(component, task, r)
+    {
+        return Err(Refusal::Unknown);
     }
-    if !is_within(rows, index, t, n) {
-        return 12;
+    if x.managing || !x.signal {
+        return Err(Refusal::NotAllowed);
     }
-    if !is_within(rows, index, t, r) {
-        return 12;
-    }
-    if x.managing {
-        return 13;
-    }
-    if x.signal {
-        return 0;
-    }
-    13
+    Ok(())
 }
 
 // An activity of an `sm`'s task, put into N and R as the sets n and r say.
-pub fn flag(n: Set, r: Set, a: usize, y: Act) -> Act
-    ensures { result ≡ listed true n r a y }
+pub fn flag(n: Set, r: Set, a: usize, act: Act) -> Act
+    ensures { result ≡ listed true n r a act }
 {
-    records::in_lists(y, text::has_member(n, a), text::has_member(r, a))
+    records::in_lists(act, n.has_member(a), r.has_member(a))
 }

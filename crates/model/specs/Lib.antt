@@ -10,3 +10,4 @@ pub mod Logs
 pub mod Cycles
 pub mod Weight
 pub mod Cases
+pub mod Refusals

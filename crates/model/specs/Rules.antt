@@ -1,5 +1,5 @@
 -- The steps of document 01: for each its refusal, tested in the page's order (0: accepted), and the next state.
-use Rattle.std.specs.Prelude.{Bool, true, false, not, List, ℕ, zero, suc, ◌+◌, max, get_or, set, leb, ltb, eqb}
+use Rattle.std.specs.Prelude.{Bool, true, false, not, List, ℕ, zero, suc, ◌+◌, max, get_or, set, leb, ltb, eqb, Option, Some, None}
 use Rattle.text.specs.Set.{empty_set, member, each_member}
 use Rattle.text.specs.declared.Set.{Set}
 use Rattle.model.specs.Tests.{◌and◌, ◌or◌, ◌implies◌, each, some, need, accepted}
@@ -20,8 +20,6 @@ use Rattle.model.specs.declared.ActStep.{ActStep}
 use Rattle.model.specs.declared.ActStep.TheVariants.{Lm, Ia, Ea, Cx, Fa}
 use Rattle.model.specs.declared.Step.{Step}
 use Rattle.model.specs.declared.Step.TheVariants.{Wait, Sm, OfTask, OfAct}
-use Rattle.model.specs.declared.Line.{Line}
-use Rattle.model.specs.declared.Line.TheVariants as line
 
 -- "Enter c" means: clock 0; executing if c is thread safe, else standing before it.
 abbrev pub entered : Table → ℕ → Act → Act
@@ -290,9 +288,9 @@ urgent_kind s (OfTask t Fm) = true
 urgent_kind s (OfAct a k) = urgent_at (act_at s a).place k
 
 -- 11: "not a step"; else the step's
-abbrev pub line_refusal : Table → State → Line → ℕ
-line_refusal K s line.Bad = 11
-line_refusal K s (line.Is x) = refusal K s x
+abbrev pub line_refusal : Table → State → Option Step → ℕ
+line_refusal K s None = 11
+line_refusal K s (Some x) = refusal K s x
 
 -- 16 told by each task and its holder: waiting with the signal set; managing with the manager holding; or a holder in R, at ether, or
 -- standing with no conflicting codel executing

@@ -5,7 +5,10 @@
 ghost use Rattle.std.specs.Prelude.{◌≡◌};
 ghost use Rattle.model.specs.Limits.{in_range};
 
+pub use refusal::Refusal;
 use text::Set;
+
+mod refusal;
 
 // How many tasks a table may have.
 pub const MOST_TASKS: usize = 16;
@@ -29,21 +32,21 @@ pub const MOST_TICKS: u64 = 1000000000;
 pub const CEILING: u64 = 1000000000000;
 
 // Where an activity is, or where an edge or a step leads: ether or a codel.
-#[derive(Clone, Copy)]
+#[derive(Clone, Copy, PartialEq, Eq)]
 pub enum Place {
     Ether,
     Codel(usize),
 }
 
 // Who holds a task: its manager or one of its activities.
-#[derive(Clone, Copy)]
+#[derive(Clone, Copy, PartialEq, Eq)]
 pub enum Holder {
     Manager,
     Activity(usize),
 }
 
 // One task's record.
-#[derive(Clone, Copy)]
+#[derive(Clone, Copy, PartialEq, Eq)]
 pub struct Task {
     pub timer: u64,
     pub signal: bool,
@@ -56,7 +59,7 @@ pub struct Task {
 }
 
 // One activity's record; `run` says that it is in its task's set N, `halt` that it is in R.
-#[derive(Clone, Copy)]
+#[derive(Clone, Copy, PartialEq, Eq)]
 pub struct Act {
     pub place: Place,
     pub executing: bool,
@@ -74,14 +77,14 @@ pub struct State {
 }
 
 // What a step of a task alone does.
-#[derive(Clone, Copy)]
+#[derive(Clone, Copy, PartialEq, Eq)]
 pub enum TaskStep {
     St,
     Fm,
 }
 
 // What a step of an activity does; `lm` names the task that lets it run, `ea` and `fa` where it goes.
-#[derive(Clone, Copy)]
+#[derive(Clone, Copy, PartialEq, Eq)]
 pub enum ActStep {
     Lm(usize),
     Ia,
@@ -99,19 +102,9 @@ pub enum Step {
     OfAct(usize, ActStep),
 }
 
-// What a log line says: a step, or none.
-#[derive(Clone, Copy)]
-pub enum Line {
-    Is(Step),
-    Bad,
-}
-
 // Is it a period, a keep, a limit, or the d of a wait?
 pub fn in_range(n: u64) -> bool
     ensures { result ≡ in_range n }
 {
-    if n < 1 {
-        return false;
-    }
-    n <= MOST_TICKS
+    (1..=MOST_TICKS).contains(&n)
 }

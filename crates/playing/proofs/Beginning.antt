@@ -3,7 +3,7 @@ use Prim.Native.Nat.{ℕ, zero, suc, ◌+◌, ◌-◌, ◌≤◌, ◌<◌}
 use mathlib.Core.Bool.{Bool, true, false}
 use mathlib.Core.List.{List, ◌++◌, append-nil, append_assoc}
 use mathlib.Core.Logic.{⊎_elim}
-use mathlib.Core.Path.{◌≡◌, refl, ap, sym, subst⁻¹, ◌∙◌}
+use mathlib.Core.Path.{◌≡◌, refl, ap, sym, subst, subst⁻¹, ◌∙◌}
 use native.Mathlib.Numerals.{add-one}
 use native.Mathlib.Omega.{arith}
 use borrow.Author.Tests.{lt-ltb, eq-eqb}
@@ -142,6 +142,10 @@ one_few false = omega arith
 -- at most every task that was read manages
 pub opened_few : {K : Table} {log : List ℕ} {from : ℕ} {s : State} {b l ns rs : List ℕ} {m p k a : ℕ} → Taken K log from s b l ns rs m p k a → m ≤ k
 opened_few {s = s} {k = k} W = omega (arith, W.opened, sum_bound k 1 (λ t. one (task_at s t).managing) (λ t h. one_few (task_at s t).managing))
+
+-- all tasks are read
+pub taken_all : {K : Table} {log : List ℕ} {from : ℕ} {s : State} {b l ns rs : List ℕ} {m p k : ℕ} → Taken K log from s b l ns rs m p k 0 → k ≡ K.ntasks → Taken K log from s b l ns rs m p K.ntasks 0
+taken_all {K} {log} {from} {s} {b} {l} {ns} {rs} {m} {p} W e = subst (λ k. Taken K log from s b l ns rs m p k 0) e W
 
 -- one more activity is read
 pub taken_act : {K : Table} {log : List ℕ} {from : ℕ} {s : State} {b l ns rs : List ℕ} {m p k a : ℕ} → Taken K log from s b l ns rs m p k a → a < K.nacts → K.nacts ≤ most_acts → {t : ℕ} → t ≡ K.task a → {y : Act} {e : ℕ} → ReadsAct log p a (get_or ns t 0) (get_or rs t 0) y e → {c d : ℕ} → c ≡ busy_of y → d ≡ listed_of y

@@ -34,8 +34,7 @@ use Rattle.engine.proofs.Lines.{first_line}
 use Rattle.engine.proofs.Pausing.{telling_more, left_over}
 use Rattle.engine.proofs.Runs.{Rows, rows_kept}
 use Rattle.engine.proofs.Starting.{ready}
-use Rattle.playing.specs.Plays.{Resumes, Begins, Plays}
-use Rattle.playing.specs.declared.Resumed.{Resumed}
+use Rattle.playing.specs.Plays.{Resumed, Resumes, Begins, Plays}
 use Rattle.playing.proofs.Resuming.{going_same}
 
 -- a place that was reached: the rows told before it, and what is carried there
@@ -150,10 +149,6 @@ module _ {K : Table} {log : List ℕ} {from : ℕ} {start : Going} {lent : List 
   -- what it comes to, told behind the rows before it, is what all lines come to
   all_played : (p : Played) → p ≡ played K g.state g.tally (length buf - filled) (pieces log at) → telling Z.here.rows.text p ≡ played K start.state start.tally (length lent - place) (pieces log from)
   all_played p e = ap (telling Z.here.rows.text) (e ∙ rw (rows_kept Z.here.rows)) ∙ Z.rest
-
-  -- the buffer keeps its length
-  pub run_kept : length after ≡ length lent
-  run_kept = rows_kept behind.rows
 
   -- it leaves at no row: it is over
   pub run_over : (r.stop ≡ Row → ⊥) → Plays K log from start lent place r after

@@ -6,7 +6,7 @@ use borrow.Author.Tests.{eq-eqb, ne_eqb, eqb-false}
 use Rattle.text.proofs.Picks.{cases}
 use Rattle.model.specs.Tests.{accepted}
 use Rattle.model.specs.Tables.{Table}
-use Rattle.saved.specs.declared.Read.{Read}
+use Rattle.saved.specs.Rows.{Read}
 use Rattle.entries.specs.Entries.{row_number, row_refusal, resumed, sound_row}
 use Rattle.tally.specs.Tallies.{lines_of, after_row, began}
 use Rattle.tally.specs.declared.Tally.{Tally}

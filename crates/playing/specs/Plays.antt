@@ -1,13 +1,27 @@
 -- A log played with its `state` rows: how one is taken, and a run that leaves at none.
-use Rattle.std.specs.Prelude.{ℕ, ◌-◌, ◌≤◌, false, List, ◌≡◌, length}
+use Rattle.std.specs.Prelude.{ℕ, ◌-◌, ◌≤◌, false, List, ◌≡◌, length, Result, Ok, Err}
 use Rattle.model.specs.Tables.{Table}
+use Rattle.model.specs.Refusals.{number_of}
+use Rattle.model.specs.declared.refusal.Refusal.{Refusal}
 use Rattle.entries.specs.Entries.{resumed}
 use Rattle.tally.specs.Tallies.{Roomy}
 use Rattle.engine.specs.Play.{pieces, played, Ready, Runs, is_row}
 use Rattle.engine.specs.Starts.{going_at}
 use Rattle.engine.specs.declared.Going.{Going}
 use Rattle.engine.specs.declared.Ran.{Ran}
-use Rattle.playing.specs.declared.Resumed.{Resumed}
+
+-- a row's refusal, 0 where it is taken, and what is carried behind it
+pub record Resumed : Type 0 where
+  pub number : ℕ
+  pub going : Going
+
+abbrev pub resumed_to : ℕ → Going → Resumed
+resumed_to n g = record { number = n; going = g }
+
+-- a row that is refused leaves what was carried
+abbrev pub resumed_by : Going → Result Going Refusal → Resumed
+resumed_by g (Ok h) = resumed_to 0 h
+resumed_by g (Err r) = resumed_to (number_of r) g
 
 -- the line of a row taken where a run left
 pub record Resumes (K : Table) (g : Going) (line : List ℕ) (r : Resumed) : Type 0 where

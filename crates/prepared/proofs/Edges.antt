@@ -1,12 +1,12 @@
 -- The edges of a codel, told by the stored target and mode of each.
 use Prim.Native.Nat.{ℕ, zero, suc, ◌≤◌, ◌<◌, min}
-use mathlib.Core.Bool.{Bool, true, false}
+use mathlib.Core.Bool.{Bool, true, false, not, beq}
 use mathlib.Core.List.{List}
-use mathlib.Core.Path.{◌≡◌, refl, sym, ◌∙◌}
+use mathlib.Core.Path.{◌≡◌, refl, sym}
 use native.Mathlib.Omega.{arith}
 use lib.ListN.{get_or}
-use lib.Dec.{T, eqb, ltb, ltb→lt, lt→ltb}
-use borrow.Author.Tests.{lt-ltb, eq-eqb, ne_eqb, eqb-true, eqb-false}
+use lib.Dec.{T, eqb, ltb→lt, lt→ltb}
+use borrow.Author.Tests.{eq-eqb, ne_eqb, eqb-true, eqb-false}
 use mir.Syntax.{w32}
 use mir.Val.{Fits}
 use Rattle.text.specs.Fields.{ether_value}
@@ -23,22 +23,17 @@ use Rattle.prepared.proofs.Stored.{rows_at, cell, field_at, most_codels_lem, mos
 use Rattle.prepared.proofs.Walks.{Passed, found, absent}
 
 -- the stored mode
-pub mode_pause : (b p : Bool) → p ≡ true → b ≡ same_bool b p
-mode_pause true p e = sym e
-mode_pause false p e = rw e
+agree : (a b : Bool) → beq a b ≡ same_bool a b
+agree true true = refl
+agree true false = refl
+agree false true = refl
+agree false false = refl
 
-pub mode_run : (x : ℕ) (p : Bool) → p ≡ false → eqb x 0 ≡ same_bool (ltb 0 x) p
-mode_run zero p e = rw e
-mode_run (suc x) p e = let l = lt-ltb 0 (suc x) (omega arith) in rw (e, l, ne_eqb (suc x) 0 (omega arith))
-
-mode_is : (x : ℕ) → eqb (min x 1) 1 ≡ ltb 0 x
+mode_is : (x : ℕ) → eqb (min x 1) 1 ≡ not (eqb x 0)
 mode_is zero = refl
-mode_is (suc x) = let l : min (suc x) 1 ≡ 1 = omega arith in rw (l, lt-ltb 0 (suc x) (omega arith))
+mode_is (suc x) = let l : min (suc x) 1 ≡ 1 = omega arith in rw (l, ne_eqb (suc x) 0 (omega arith))
 
 -- the stored target
-pub small_codel : (p : Place) (c : ℕ) → T (small p) → p ≡ Codel c → c < most_codels
-small_codel p c h e = ltb→lt c most_codels (rw e at h)
-
 turned : (a b : ℕ) → eqb a b ≡ eqb b a
 turned a b = cases (eqb b a) (λ e. rw e (eq-eqb a b (sym (eqb-true b a e)))) (λ e. rw e (ne_eqb a b (λ q. eqb-false b a e (sym q))))
 
@@ -55,15 +50,15 @@ target_is x (Codel d) h s =
 
 -- a stored edge has that target and mode
 abbrev pub edge_hit : List ℕ → ℕ → Bool → ℕ → Bool
-edge_hit rows target z e = eqb (cell rows 3 e 1) target and same_bool (ltb 0 (cell rows 3 e 2)) z
+edge_hit rows target z e = eqb (cell rows 3 e 1) target and beq (not (eqb (cell rows 3 e 2) 0)) z
 
 module _ (rows : List ℕ) (target : ℕ) (z : Bool) (e : ℕ) where
   module _ (x : ℕ) (p : x ≡ cell rows 3 e 1) where
     pub edge_other : (x ≡ target → ⊥) → edge_hit rows target z e ≡ false
     edge_other n = rw (← p, ne_eqb _ _ n)
 
-    pub edge_same : x ≡ target → (y : ℕ) → y ≡ cell rows 3 e 2 → (r b : Bool) → r ≡ same_bool (ltb 0 y) z → r ≡ b → edge_hit rows target z e ≡ b
-    edge_same t y o r b m q = rw (← p, eq-eqb _ _ t, ← o) (sym m ∙ q)
+    pub edge_same : x ≡ target → (y : ℕ) → y ≡ cell rows 3 e 2 → (b : Bool) → beq (not (eqb y 0)) z ≡ b → edge_hit rows target z e ≡ b
+    edge_same t y o b q = rw (← p, eq-eqb _ _ t, ← o) q
 
 module _ {rows index : List ℕ} (P : Prepared rows index) (p : Place) (s : T (known (table_in rows index) p)) where
   -- a codel that has a row is small
@@ -80,7 +75,7 @@ module _ {rows index : List ℕ} (P : Prepared rows index) (p : Place) (s : T (k
     unfolding edge_is table_of most_of form_of shown
     edge_row e h =
         let l : e < most_edges = omega (arith, most_edges_lem P) in
-        rw (t, field_at rows 3 e 1 l, field_at rows 3 e 2 l, target_is _ p (bits (number_place (rows_at 3) e 1)).fits small_known, mode_is (cell rows 3 e 2))
+        rw (t, field_at rows 3 e 1 l, field_at rows 3 e 2 l, target_is _ p (bits (number_place (rows_at 3) e 1)).fits small_known, mode_is (cell rows 3 e 2), agree (not (eqb (cell rows 3 e 2) 0)) z)
 
     -- the walk over a codel's edges
     module _ (h : c < (table_in rows index).ncodels) (from end : ℕ) (b : from ≡ begin_of index edges_at c) (n : end ≡ end_of index edges_at c) where

@@ -1,13 +1,14 @@
 -- The mutex rows of two codels, told by those of the smaller.
-use Prim.Native.Nat.{ℕ, ◌+◌, ◌≤◌, ◌<◌}
+use Prim.Native.Nat.{ℕ, ◌+◌, ◌≤◌, ◌<◌, min, max}
 use mathlib.Core.Bool.{Bool, true, false}
 use mathlib.Core.List.{List}
 use mathlib.Core.Logic.{⊎_elim}
 use mathlib.Core.Path.{◌≡◌, refl, sym, ◌∙◌}
 use native.Mathlib.Omega.{arith}
 use lib.ListN.{get_or}
-use lib.Dec.{T, eqb, eqb→eq}
-use borrow.Author.Tests.{eq-eqb, ne_eqb}
+use lib.Dec.{T, eqb, ltb, eqb→eq}
+use borrow.Author.Tests.{eq-eqb, ne_eqb, ltb-true, ltb-false}
+use Rattle.text.proofs.Picks.{cases}
 use Rattle.row.specs.Kinds.{form_of}
 use Rattle.table.specs.Tables.{table_of}
 use Rattle.model.specs.Tests.{◌and◌, ◌or◌}
@@ -26,8 +27,19 @@ conflict_half K c d t =
     let b = eqb (K.mutex w.0).lo d and eqb (K.mutex w.0).hi c in
     some_mk _ K.nmutex w.0 w.1 (⊎_elim (or_r b a) (or_l b a) (or_cases a b w.2))
 
-pub conflict_turned : (K : Table) (c d : ℕ) (r : Bool) → r ≡ conflict K d c → r ≡ conflict K c d
-conflict_turned K c d r e = e ∙ same_test _ _ (conflict_half K d c) (conflict_half K c d)
+pub conflict_rising : (K : Table) (c d : ℕ) → conflict K (min c d) (max c d) ≡ conflict K c d
+conflict_rising K c d =
+    cases (ltb d c)
+    (λ e.
+    let l : d < c = ltb-true d c e in
+    let p : min c d ≡ d = omega arith in
+    let q : max c d ≡ c = omega arith in
+    rw (p, q) (same_test _ _ (conflict_half K d c) (conflict_half K c d)))
+    (λ e.
+    let l : c ≤ d = ltb-false d c e in
+    let p : min c d ≡ c = omega arith in
+    let q : max c d ≡ d = omega arith in
+    rw (p, q))
 
 -- two rising pairs are the same either way round where they are the same as they stand
 rising_pair : (a b lo hi : ℕ) → a ≤ b → lo ≤ hi → ((eqb a lo and eqb b hi) or (eqb a hi and eqb b lo)) ≡ (eqb a lo and eqb b hi)
@@ -45,18 +57,18 @@ rising_pair a b lo hi h l =
 abbrev pub pair_hit : List ℕ → ℕ → ℕ → Bool
 pair_hit rows hi m = eqb (cell rows 4 m 1) hi
 
-module _ (rows : List ℕ) (hi m n x : ℕ) (d : n ≡ cell rows 4 m 1) (e : x ≡ n) where
+module _ (rows : List ℕ) (hi m x : ℕ) (e : x ≡ cell rows 4 m 1) where
   pub pair_same : x ≡ hi → pair_hit rows hi m ≡ true
-  pair_same q = eq-eqb _ _ (sym (e ∙ d) ∙ q)
+  pair_same q = eq-eqb _ _ (sym e ∙ q)
 
   pub pair_other : (x ≡ hi → ⊥) → pair_hit rows hi m ≡ false
-  pair_other o = ne_eqb _ _ (λ q. o (e ∙ d ∙ q))
+  pair_other o = ne_eqb _ _ (λ q. o (e ∙ q))
 
 module _ {rows index : List ℕ} (P : Prepared rows index) (lo hi : ℕ) (l : lo ≤ hi) where
   pair_row : (m : ℕ) → m < (table_in rows index).nmutex → ((eqb ((table_in rows index).mutex m).lo lo and eqb ((table_in rows index).mutex m).hi hi) or (eqb ((table_in rows index).mutex m).lo hi and eqb ((table_in rows index).mutex m).hi lo)) ≡ (eqb ((table_in rows index).mutex m).lo lo and pair_hit rows hi m)
   unfolding table_of form_of
   pair_row m h =
-      let x : cell rows 4 m 1 ≡ ((table_in rows index).mutex m).hi = number_is P 4 m 1 (omega arith) h (omega arith) refl _ _ refl refl in
+      let x : cell rows 4 m 1 ≡ ((table_in rows index).mutex m).hi = number_is P 4 m 1 (omega arith) h (omega arith) refl _ refl in
       rw x (rising_pair _ _ lo hi ((shape P).rising m h) l)
 
   -- the walk over the mutex rows of the smaller codel

@@ -1,37 +1,26 @@
 -- Where the numbers of a prepared table stand, and that each is what the table says.
-use Prim.Native.Nat.{ℕ, zero, suc, ◌+◌, ◌-◌, ◌*◌, ◌≤◌, ◌<◌, min}
+use Prim.Native.Nat.{ℕ, ◌+◌, ◌*◌, ◌≤◌, ◌<◌, min}
 use mathlib.Core.Bool.{Bool, true, false}
 use mathlib.Core.List.{List}
-use mathlib.Core.Path.{◌≡◌, refl, sym, ap, ◌∙◌}
+use mathlib.Core.Path.{◌≡◌, refl, ◌∙◌}
 use native.Mathlib.Omega.{arith}
 use lib.ListN.{get_or, take}
-use lib.Seq.{get_or-take}
 use lib.Dec.{eqb}
 use borrow.Author.Tests.{lt-ltb, eq-eqb, ne_eqb}
-use mir.Syntax.{w32}
-use mir.Val.{Fits}
 use Rattle.text.specs.Parts.{pick}
 use Rattle.text.specs.Fields.{ether_value}
-use Rattle.row.specs.Kinds.{kinds, stored_kinds, most_fields, most_of, form_of, a_number}
+use Rattle.row.specs.Kinds.{kinds, stored_kinds, most_fields, most_of, form_of}
+use Rattle.row.specs.declared.Form.TheVariants as form
+use Rattle.std.specs.Prelude.{Some}
 use Rattle.table.specs.Tables.{room_in, base_of, slot_of, ether_slot, widened, shown, field_of, made, table_of}
 use Rattle.table.proofs.Limits.{row_room, number_most}
 use Rattle.model.specs.Limits.{most_tasks, most_acts, most_codels, most_edges, most_mutexes, most_ticks}
-use Rattle.model.specs.Tables.{is_start, target_of}
+use Rattle.model.specs.Tables.{target_of}
 use Rattle.model.specs.Rows.{wellformed}
-use Rattle.model.specs.Rules.{stop_of}
 use Rattle.model.specs.declared.Place.TheVariants.{Ether, Codel}
 use Rattle.model.proofs.Tests.{true_T}
 use Rattle.model.proofs.Formed.{Formed, formed}
-use Rattle.prepared.specs.Prepared.{number_place, number_in, table_in, begin_of, end_of, edges_at, pairs_end_at, starts_at, stops_at, no_stop, Prepared, pause_of}
-
--- a count
-pub count_at : (index : List ℕ) (k x : ℕ) → k < stored_kinds → x ≡ get_or index k 0 → x ≡ get_or (take stored_kinds index) k 0
-count_at index k x h e = e ∙ sym (get_or-take stored_kinds index k 0 h)
-
--- where the rows of a row that is not the first begin
-pub begin_at : (index : List ℕ) (at i x : ℕ) → (i ≡ 0 → ⊥) → x ≡ get_or index (at + (i - 1)) 0 → x ≡ begin_of index at i
-begin_at index at zero x n e = absurd (n refl)
-begin_at index at (suc i) x n e = let p : suc i - 1 ≡ i = omega arith in rw p at e
+use Rattle.prepared.specs.Prepared.{number_place, number_in, table_in, end_of, edges_at, pairs_end_at, Prepared, pause_of}
 
 -- where the rows of a kind begin, and number j of row i of them
 abbrev pub rows_at : ℕ → ℕ
@@ -61,7 +50,7 @@ module _ (counts rows : List ℕ) (w : wellformed (table_of (made counts rows)) 
   shape_of = formed (table_of (made counts rows)) (true_T _ w)
 
   module _ (k i j : ℕ) (h : k < stored_kinds) (l : i < get_or counts k 0) (m : j < most_fields) where
-    pub number_at : (x : ℕ) → form_of k j ≡ a_number → x ≡ cell rows k i j → x ≡ field_of rows k i j
+    pub number_at : (x : ℕ) → form_of k j ≡ Some form.Number → x ≡ cell rows k i j → x ≡ field_of rows k i j
     unfolding shown widened
     number_at x f e =
         let t = made counts rows in
@@ -91,8 +80,8 @@ module _ {rows index : List ℕ} (P : Prepared rows index) where
 
   -- a number of a row that the table has
   module _ (k i j : ℕ) (h : k < stored_kinds) (l : i < get_or (take stored_kinds index) k 0) (m : j < most_fields) where
-    pub number_is : form_of k j ≡ a_number → (n x : ℕ) → n ≡ cell rows k i j → x ≡ n → x ≡ field_of rows k i j
-    number_is f n x e q = q ∙ number_at (take stored_kinds index) rows P.formed k i j h l m n f e
+    pub number_is : form_of k j ≡ Some form.Number → (x : ℕ) → x ≡ cell rows k i j → x ≡ field_of rows k i j
+    number_is f x e = number_at (take stored_kinds index) rows P.formed k i j h l m x f e
 
   -- where an edge pauses, by its stored target and mode
   module _ (e : ℕ) (h : e < (table_in rows index).nedges) where
@@ -114,27 +103,17 @@ module _ {rows index : List ℕ} (P : Prepared rows index) where
         unfolding widened
         pause_ether t = rw (stored_pause, ← q, pauses, ← o, t)
 
-        pub pause_codel : (x : ℕ) → ((i : ℕ) → Fits w32 (get_or rows i 0)) → (y ≡ ether_slot → ⊥) → x ≡ y → Codel x ≡ pause_of ((table_in rows index).edge e)
+        pub pause_codel : (x : ℕ) → y < 4294967296 → (y ≡ ether_slot → ⊥) → x ≡ y → Codel x ≡ pause_of ((table_in rows index).edge e)
         unfolding widened
-        pause_codel x bits n p =
-            let f : y < 4294967296 = rw o (bits (number_place (rows_at 3) e 1)).fits in
-            rw (stored_pause, ← q, pauses, ← o, ne_eqb _ ether_slot n, ne_eqb y ether_value (omega arith), p)
+        pause_codel x f n p = rw (stored_pause, ← q, pauses, ← o, ne_eqb _ ether_slot n, ne_eqb y ether_value (omega arith), p)
 
   -- the edges and the mutex rows of a codel end where there is still room
-  module _ (c end : ℕ) (h : c < (table_in rows index).ncodels) where
-    pub edges_end : end ≡ end_of index edges_at c → end ≤ most_edges
-    edges_end e = omega (arith, P.edges.ends c h, most_edges_lem)
+  module _ (c : ℕ) (h : c < (table_in rows index).ncodels) where
+    pub edges_end : end_of index edges_at c ≤ most_edges
+    edges_end = omega (arith, P.edges.ends c h, most_edges_lem)
 
-    pub pairs_end : end ≡ get_or index (pairs_end_at + c) 0 → end ≤ most_mutexes
-    pairs_end e = omega (arith, P.pairs.ends c h, most_mutexes_lem)
+    pub pairs_end : get_or index (pairs_end_at + c) 0 ≤ most_mutexes
+    pairs_end = omega (arith, P.pairs.ends c h, most_mutexes_lem)
 
-  -- an activity's start and stop
-  pub start_at_lem : (a c x : ℕ) → a < (table_in rows index).nacts → c < (table_in rows index).ncodels → x ≡ get_or index (starts_at + a) 0 → eqb c x ≡ is_start (table_in rows index) a c
-  start_at_lem a c x h l e = rw e (sym (P.starts a c h l))
-
-  module _ (a : ℕ) (h : a < (table_in rows index).nacts) where
-    pub stop_none : get_or index (stops_at + a) 0 ≡ no_stop → Ether ≡ stop_of (table_in rows index) a
-    stop_none e = rw (eq-eqb _ _ e) at (P.stops a h)
-
-    pub stop_some : (x : ℕ) → (get_or index (stops_at + a) 0 ≡ no_stop → ⊥) → x ≡ get_or index (stops_at + a) 0 → Codel x ≡ stop_of (table_in rows index) a
-    stop_some x n e = ap Codel e ∙ rw (ne_eqb _ _ n) at (P.stops a h)
+-- where the numbers of a prepared table end, for what reads them
+pub ruleset limits = (most_tasks_lem, most_acts_lem, most_codels_lem, most_edges_lem, most_mutexes_lem, edges_end, pairs_end)

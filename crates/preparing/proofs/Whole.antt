@@ -163,16 +163,16 @@ module _ (K : Table) (F : Formed K) (O : Ordered K) (base : List ℕ) (size : le
         (λ d e. O.alone a 1 d e (omega arith)))
 
 -- an accepted table is laid out
-pub laid : (t : table.Table) → Passes t → length t.counts ≡ stored_kinds → length t.rows ≡ slots → Laid t.counts t.rows
+pub laid : (t : table.Table) → Passes t → length t.counts ≡ stored_kinds → length t.rows ≡ slots → Laid t
 unfolding table_of most_of
 laid t e c r =
     let w = accepted_wellformed t e in
     let most = (formed (table_of t) (true_T _ w)).fits in
     record { size = r; counted = record { kinds = c; most = at_kind (λ k. get_or t.counts k 0 ≤ most_of k) most.0 most.1 most.2 most.3 most.4 }; formed = w }
 
-module _ {counts rows : List ℕ} (L : Laid counts rows) where
+module _ {t : table.Table} (L : Laid t) where
   abbrev K : Table
-  K = table_of (made counts rows)
+  K = table_of t
 
   abbrev none : List ℕ
   none = replicate index_length 0
@@ -183,23 +183,23 @@ module _ {counts rows : List ℕ} (L : Laid counts rows) where
   O : Ordered K
   O = ordered K L.formed
 
-  counts_in : (k : ℕ) → k < stored_kinds → count_in K k ≡ get_or counts k 0
+  counts_in : (k : ℕ) → k < stored_kinds → count_in K k ≡ get_or t.counts k 0
   unfolding table_of count_in
-  counts_in = at_kind (λ k. count_in K k ≡ get_or counts k 0) refl refl refl refl refl
+  counts_in = at_kind (λ k. count_in K k ≡ get_or t.counts k 0) refl refl refl refl refl
 
   -- the counts of the index are the table's
-  pub table_in_lem : table_in rows (index_of K) ≡ K
+  pub table_in_lem : table_in t.rows (index_of K) ≡ K
   unfolding index_of
   table_in_lem =
       let n = index_length_lem K (shape L) O none none_length in
-      let e : take stored_kinds (index_of K) ≡ counts = ext_get_or 0 (take stored_kinds (index_of K)) counts (length-take-le stored_kinds (index_of K) (omega arith) ∙ sym L.counted.kinds)
+      let e : take stored_kinds (index_of K) ≡ t.counts = ext_get_or 0 (take stored_kinds (index_of K)) t.counts (length-take-le stored_kinds (index_of K) (omega arith) ∙ sym L.counted.kinds)
       (λ k h.
       let l : k < stored_kinds = omega (arith, length-take-le stored_kinds (index_of K) (omega arith)) in
       get_or-take stored_kinds (index_of K) k 0 l ∙ index_counts K (shape L) O none none_length k l ∙ counts_in k l) in
-      ap (λ (x : List ℕ). table_of (made x rows)) e
+      ap (λ (x : List ℕ). table_of (made x t.rows)) e
 
   -- the index agrees with the rows
-  pub prepared : Prepared rows (index_of K)
+  pub prepared : Prepared t.rows (index_of K)
   unfolding index_of
   prepared = record {
     size = L.size;
@@ -214,7 +214,7 @@ module _ {counts rows : List ℕ} (L : Laid counts rows) where
   }
 
   -- the fillings one after the other make it
-  pub all_filled : (a b c d e f g : List ℕ) → a ≡ counted (λ k. get_or counts k 0) none stored_kinds → b ≡ filled a safe_at 1 most_codels → c ≡ filled b stops_at no_stop most_acts → d ≡ ended (λ i. cell rows 3 i 0) edges_at c (get_or counts 3 0) → e ≡ ended (λ i. cell rows 1 i 0) acts_at d (get_or counts 1 0) → f ≡ kinds_noted K e K.ncodels → g ≡ pairs_noted K f K.nmutex → g ≡ index_of K
+  pub all_filled : (a b c d e f g : List ℕ) → a ≡ counted (λ k. get_or t.counts k 0) none stored_kinds → b ≡ filled a safe_at 1 most_codels → c ≡ filled b stops_at no_stop most_acts → d ≡ ended (λ i. cell t.rows 3 i 0) edges_at c (get_or t.counts 3 0) → e ≡ ended (λ i. cell t.rows 1 i 0) acts_at d (get_or t.counts 1 0) → f ≡ kinds_noted K e K.ncodels → g ≡ pairs_noted K f K.nmutex → g ≡ index_of K
   unfolding index_of table_of form_of
-  all_filled a b c d e f g p q r s t u v =
-      rw (v, u, t, ended_same (λ i. cell rows 1 i 0) K.task acts_at d (get_or counts 1 0) (λ a h. number_at counts rows L.formed 1 a 0 (omega arith) h (omega arith) _ refl refl), s, ended_same (λ i. cell rows 3 i 0) (λ i. (K.edge i).source) edges_at c (get_or counts 3 0) (source_cell L), r, q, p, counted_same (λ k. get_or counts k 0) (count_in K) none stored_kinds (λ k h. sym (counts_in k h)))
+  all_filled a b c d e f g p q r s w u v =
+      rw (v, u, w, ended_same (λ i. cell t.rows 1 i 0) K.task acts_at d (get_or t.counts 1 0) (λ a h. number_at t.counts t.rows L.formed 1 a 0 (omega arith) h (omega arith) _ refl refl), s, ended_same (λ i. cell t.rows 3 i 0) (λ i. (K.edge i).source) edges_at c (get_or t.counts 3 0) (source_cell L), r, q, p, counted_same (λ k. get_or t.counts k 0) (count_in K) none stored_kinds (λ k h. sym (counts_in k h)))

@@ -5,7 +5,8 @@ use Rattle.row.specs.Kinds.{stored_kinds}
 use Rattle.model.specs.Limits.{most_acts, most_codels}
 use Rattle.model.specs.Tables.{Table}
 use Rattle.model.specs.Rows.{wellformed}
-use Rattle.table.specs.Tables.{slots, made, table_of, Counted}
+use Rattle.table.specs.Tables.{slots, table_of, Counted}
+use Rattle.table.specs.declared.Table as table
 use Rattle.prepared.specs.Prepared.{nowhere, safe_at, edges_at, pairs_from_at, pairs_end_at, starts_at, stops_at, acts_at, index_length, no_stop}
 
 -- n numbers from a place on made v
@@ -64,8 +65,8 @@ index_of K =
     K.ncodels)
     K.nmutex
 
--- the rows of a well-formed table, with room for all that they may hold
-pub record Laid (counts rows : List ℕ) : Type 0 where
-  pub size : length rows ≡ slots
-  pub counted : Counted counts
-  pub formed : wellformed (table_of (made counts rows)) ≡ true
+-- a well-formed table, with room for all that its rows may hold
+pub record Laid (t : table.Table) : Type 0 where
+  pub size : length t.rows ≡ slots
+  pub counted : Counted t.counts
+  pub formed : wellformed (table_of t) ≡ true

@@ -5,14 +5,15 @@
 
 ghost use Rattle.std.specs.Prelude.{◌≤◌, length, T};
 ghost use Rattle.model.specs.Sound.{sound};
-ghost use Rattle.prepared.specs.Prepared.{table_in, Prepared};
+ghost use Rattle.prepared.specs.Held.{held};
 ghost use Rattle.table.specs.Checks.{Passes};
 ghost use Rattle.tally.specs.Tallies.{most_count, lines_of};
 
 use engine::Going;
+use prepared::Component;
 use std::io;
 use std::io::{Read, Write};
-use table::{Answer, Table};
+use table::Table;
 
 // Room for the answer, a row or a refusal.
 const ROOM: usize = 4096;
@@ -21,15 +22,14 @@ const ROOM: usize = 4096;
 fn tell<W: Write, E: Write>(
     output: &mut W,
     errors: &mut E,
-    rows: &[u32],
-    index: &[u32],
+    component: &Component,
     g: Going,
     refusal: u64,
 ) -> io::Result<()>
-    requires { Prepared rows.now index.now × T (sound (table_in rows.now index.now) g.state) × (lines_of g.tally ≤ most_count) }
+    requires { T (sound (held component.now) g.state) × (lines_of g.tally ≤ most_count) }
 {
     let mut out = [0u8; ROOM];
-    let told = reaching::put_end(rows, index, &mut out, g, refusal);
+    let told = reaching::put_end(component, &mut out, g, refusal);
     if refusal == 0 {
         return output.write_all(&out[..told]);
     }
@@ -42,24 +42,21 @@ fn reach_blocks<R: Read, W: Write, E: Write>(
     input: &mut R,
     output: &mut W,
     errors: &mut E,
-    rows: &[u32],
-    index: &[u32],
+    component: &Component,
     block: &mut [u8],
     start: usize,
     last: bool,
 ) -> io::Result<()>
-    requires { Prepared rows.now index.now × (start ≤ length block.old) × (length block.old ≤ 65536) }
+    requires { (start ≤ length block.old) × (length block.old ≤ 65536) }
 {
     let mut g = engine::fresh_going();
     let mut have = start;
     let mut ended = last;
-    let mut turns = 0;
-    while turns < blocks::BLOCKS {
-        turns += 1;
-        let turn = reaching::reach_block(rows, index, block, have, ended, g);
+    for turns in 0..blocks::BLOCKS {
+        let turn = reaching::reach_block(component, block, have, ended, g);
         g = turn.going;
         if turn.over {
-            return tell(output, errors, rows, index, g, turn.refusal);
+            return tell(output, errors, component, g, turn.refusal);
         }
         have = turn.held;
         let got = blocks::read_behind(input, block, have)?;
@@ -81,9 +78,8 @@ fn reach_log<R: Read, W: Write, E: Write>(
 ) -> io::Result<()>
     requires { Passes t × (have ≤ length block.old) × (length block.old ≤ 65536) }
 {
-    let index = preparing::index_of(t);
-    let rows = t.rows;
-    reach_blocks(input, output, errors, &rows, &index, block, have, ended)
+    let component = preparing::prepare(t);
+    reach_blocks(input, output, errors, &component, block, have, ended)
 }
 
 // Writes a refused table's number and line.
@@ -99,24 +95,20 @@ fn main(rt: HostRuntime) -> io::Result<()> {
     let mut errors = rt.stderr();
     let mut block = [0u8; blocks::BLOCK];
     let start = blocks::read_start(&mut input, &mut block)?;
-    let have = start.have;
-    let cut = stream::cut_at(&block[..have]);
-    let read = table::read_table(&block[..cut]);
-    let answer = read.answer;
-    let t = read.table;
-    match answer {
-        Answer::Fine => {
-            let held = stream::to_front(&mut block, cut, have);
+    let cut = stream::cut_at(&block[..start.have]);
+    match table::read_table(&block[..cut]) {
+        Ok(table) => {
+            let held = stream::to_front(&mut block, cut, start.have);
             reach_log(
                 &mut input,
                 &mut output,
                 &mut errors,
-                t,
+                table,
                 &mut block,
                 held,
                 start.ended,
             )
         }
-        Answer::Refused(n, line) => tell_refused(&mut errors, n, line),
+        Err(refused) => tell_refused(&mut errors, refused.fault.number(), refused.line),
     }
 }

@@ -6,6 +6,7 @@ use mathlib.Core.Path.{◌≡◌, refl, sym, ap, subst, subst⁻¹, ◌∙◌}
 use native.Mathlib.Omega.{arith}
 use lib.Dec.{T, eqb}
 use borrow.Author.Tests.{ne_eqb, eqb-true}
+use Rattle.std.specs.Prelude.{Option, Some, None}
 use Rattle.text.specs.Parts.{split_on}
 use Rattle.text.proofs.Picks.{cases}
 use Rattle.model.specs.Tests.{◌and◌, accepted}
@@ -17,8 +18,6 @@ use Rattle.model.specs.Logs.{reached}
 use Rattle.model.specs.Cycles.{Entry, step, row, neither, steps_of, lines_done, stop_on}
 use Rattle.model.specs.declared.State.{State}
 use Rattle.model.specs.declared.Step.{Step}
-use Rattle.model.specs.declared.Line.{Line}
-use Rattle.model.specs.declared.Line.TheVariants as line
 use Rattle.model.proofs.Formed.{formed}
 use Rattle.model.proofs.Soundness.{Sound}
 use Rattle.model.proofs.StepsKeep.{reached_sound}
@@ -86,7 +85,7 @@ and_false true b e = e
 and_false false b e = refl
 
 -- what the first line says
-first_entry : (K : Table) (l : Line) (p q : List ℕ) (ps : List (List ℕ)) → read_step set_digits p ≡ l → entries_in K (p ∷ q ∷ ps) ≡ entry_by K p l ∷ entries_in K (q ∷ ps)
+first_entry : (K : Table) (l : Option Step) (p q : List ℕ) (ps : List (List ℕ)) → read_step set_digits p ≡ l → entries_in K (p ∷ q ∷ ps) ≡ entry_by K p l ∷ entries_in K (q ∷ ps)
 unfolding entries_in
 first_entry K l p q ps e = ap (λ m. entry_by K p m ∷ entries_in K (q ∷ ps)) e
 
@@ -117,10 +116,10 @@ module _ (K : Table) (R : RowLaws K) where
     plain e x u f h = rw (f, u) h
 
     -- a step
-    on_step_lem : (x : Step) → read_step set_digits p ≡ line.Is x → Ending s c (p ∷ q ∷ ps) (past_line K s c p (line.Is x) behind)
+    on_step_lem : (x : Step) → read_step set_digits p ≡ Some x → Ending s c (p ∷ q ∷ ps) (past_line K s c p (Some x) behind)
     unfolding entry_by
     on_step_lem x e =
-        let u = first_entry K (line.Is x) p q ps e in
+        let u = first_entry K (Some x) p q ps e in
         let b : sets K p ≡ false = cases (begins_row p) (λ b. absurd (no_step_lem (sym (R.no_step p b) ∙ e))) (λ b. rw b) in
         let f = and_false (eqb (lines_of c) 0) (sets K p) b in
         let w = next K s x in
@@ -129,11 +128,11 @@ module _ (K : Table) (R : RowLaws K) where
         (λ y. rw y (plain (step x) _ u f (ends_step K s (lines_of c) (entries_in K (q ∷ ps)) x y (onward w d (q ∷ ps) (lines_of c) _ (omega arith) (go w d)))))
         (λ y. rw y (plain (step x) _ u f (ends_refused K s c x (entries_in K (q ∷ ps)) y)))
 
-    module _ (e : read_step set_digits p ≡ line.Bad) where
+    module _ (e : read_step set_digits p ≡ None) where
       -- neither step nor row
       on_bad : begins_row p ≡ false → Ending s c (p ∷ q ∷ ps) (stays s c 11)
       unfolding entry_by
-      on_bad b = plain neither _ (first_entry K line.Bad p q ps e ∙ rw b) (and_false (eqb (lines_of c) 0) (sets K p) (rw b)) (ends_bad K s c (entries_in K (q ∷ ps)))
+      on_bad b = plain neither _ (first_entry K None p q ps e ∙ rw b) (and_false (eqb (lines_of c) 0) (sets K p) (rw b)) (ends_bad K s c (entries_in K (q ∷ ps)))
 
       module _ (b : begins_row p ≡ true) where
         -- a row that sets the state
@@ -179,12 +178,12 @@ module _ (K : Table) (R : RowLaws K) where
             refused n a h = rw a h
 
     -- any line
-    on_line_lem : (l : Line) → read_step set_digits p ≡ l → Ending s c (p ∷ q ∷ ps) (past_line K s c p l behind)
-    on_line_lem (line.Is x) e = on_step_lem x e
-    on_line_lem line.Bad e =
+    on_line_lem : (l : Option Step) → read_step set_digits p ≡ l → Ending s c (p ∷ q ∷ ps) (past_line K s c p l behind)
+    on_line_lem (Some x) e = on_step_lem x e
+    on_line_lem None e =
         cases (begins_row p)
-        (λ b. let y : past_line K s c p line.Bad behind ≡ past_row s c (resumed K s c p) behind = rw b in subst⁻¹ (Ending s c (p ∷ q ∷ ps)) y (on_row_lem e b))
-        (λ b. let y : past_line K s c p line.Bad behind ≡ stays s c 11 = rw b in subst⁻¹ (Ending s c (p ∷ q ∷ ps)) y (on_bad e b))
+        (λ b. let y : past_line K s c p None behind ≡ past_row s c (resumed K s c p) behind = rw b in subst⁻¹ (Ending s c (p ∷ q ∷ ps)) y (on_row_lem e b))
+        (λ b. let y : past_line K s c p None behind ≡ stays s c 11 = rw b in subst⁻¹ (Ending s c (p ∷ q ∷ ps)) y (on_bad e b))
 
   -- all lines
   ends : (ps : List (List ℕ)) (s : State) (c : Tally) → Ending s c ps (passed K s c ps)

@@ -7,6 +7,7 @@ use native.Mathlib.Omega.{arith}
 use borrow.Author.Tests.{lt-ltb}
 use lib.ListN.{length, length-append}
 use lib.Dec.{T, eqb}
+use Rattle.std.specs.Prelude.{Option, Some, None}
 use Rattle.text.specs.Parts.{pick, split_on}
 use Rattle.text.proofs.Picks.{cases}
 use Rattle.model.specs.Tests.{accepted}
@@ -14,8 +15,7 @@ use Rattle.model.specs.Tables.{Table}
 use Rattle.model.specs.Rows.{wellformed}
 use Rattle.model.specs.Rules.{refusal, next}
 use Rattle.model.specs.declared.State.{State}
-use Rattle.model.specs.declared.Line.{Line}
-use Rattle.model.specs.declared.Line.TheVariants as line
+use Rattle.model.specs.declared.Step.{Step}
 use Rattle.logs.specs.Lines.{longest_line, longest_row, set_digits, read_step}
 use Rattle.saved.specs.Rows.{begins_row}
 use Rattle.entries.specs.Entries.{row_number, row_refusal, resumed}
@@ -28,7 +28,7 @@ use Rattle.judging.proofs.Accounts.{behind}
 use Rattle.reaching.specs.Passing.{Passed, stays, past_line, passed}
 
 -- a line over 63 bytes with its newline is no step
-long_bad : (p q : List ℕ) → longest_row ≤ length p → read_step set_digits (p ++ q) ≡ line.Bad
+long_bad : (p q : List ℕ) → longest_row ≤ length p → read_step set_digits (p ++ q) ≡ None
 unfolding read_step
 long_bad p q h = let l : longest_line < length (p ++ q) + 1 = omega (arith, length-append p q) in rw (lt-ltb _ _ l)
 
@@ -43,12 +43,12 @@ module _ (K : Table) where
   goes_on qs x = pick (accepted x.number) (passed K x.state x.tally qs) x
 
   -- a line with its newline, and two ways to go on behind it
-  on_line_lem : (qs : List (List ℕ)) (l : Line) (s : State) (c : Tally) (p : List ℕ) (go then : State → Tally → Passed) → ((w : State) (d : Tally) → then w d ≡ goes_on qs (go w d))
+  on_line_lem : (qs : List (List ℕ)) (l : Option Step) (s : State) (c : Tally) (p : List ℕ) (go then : State → Tally → Passed) → ((w : State) (d : Tally) → then w d ≡ goes_on qs (go w d))
       → past_line K s c p l then ≡ goes_on qs (past_line K s c p l go)
-  on_line_lem qs line.Bad s c p go then h =
+  on_line_lem qs None s c p go then h =
       let u = resumed K s c p in
       cases (begins_row p) (λ b. rw b (cases (accepted u.number) (λ y. rw y (h u.state u.tally)) (λ y. rw (y, y)))) (λ b. rw b)
-  on_line_lem qs (line.Is x) s c p go then h = cases (accepted (refusal K s x)) (λ y. rw y (h (next K s x) (tallied K s x c))) (λ y. rw (y, y))
+  on_line_lem qs (Some x) s c p go then h = cases (accepted (refusal K s x)) (λ y. rw y (h (next K s x) (tallied K s x c))) (λ y. rw (y, y))
 
   module _ (R : RowLaws K) where
     -- what is too long for a line is none, whatever follows

@@ -6,6 +6,7 @@ use mathlib.Core.Path.{◌≡◌, refl, ap, subst}
 use native.Mathlib.Omega.{arith}
 use lib.Dec.{T, eqb}
 use lib.ListN.{length, length-append}
+use Rattle.std.specs.Prelude.{Option, Some, None}
 use Rattle.text.specs.Parts.{split_on, join_on}
 use Rattle.text.proofs.Picks.{cases}
 use Rattle.text.proofs.Parts.{join_split}
@@ -17,8 +18,6 @@ use Rattle.model.specs.Cycles.{verdict}
 use Rattle.model.specs.declared.State.{State}
 use Rattle.model.specs.declared.Step.{Step}
 use Rattle.model.specs.declared.Step.TheVariants.{Wait, Sm, OfTask, OfAct}
-use Rattle.model.specs.declared.Line.{Line}
-use Rattle.model.specs.declared.Line.TheVariants as line
 use Rattle.logs.specs.Lines.{set_digits, read_step}
 use Rattle.saved.specs.Rows.{begins_row}
 use Rattle.entries.specs.Entries.{row_state, row_number, row_refusal, resumed}
@@ -63,9 +62,9 @@ module _ (K : Table) (R : RowLaws K) where
         less = less_roomy r (omega arith)
 
   -- a line with its newline
-  on_line_lem : (l : Line) (s : State) (c : Tally) (p : List ℕ) (n m : ℕ) (go : State → Tally → Passed) → ((w : State) (d : Tally) → Roomy d (n + m) → Roomy (go w d).tally m)
+  on_line_lem : (l : Option Step) (s : State) (c : Tally) (p : List ℕ) (n m : ℕ) (go : State → Tally → Passed) → ((w : State) (d : Tally) → Roomy d (n + m) → Roomy (go w d).tally m)
       → Roomy c (length p + suc n + m) → Roomy (past_line K s c p l go).tally m
-  on_line_lem line.Bad s c p n m go h r =
+  on_line_lem None s c p n m go h r =
       let u = resumed K s c p in
       let less = less_roomy {m = m} r (omega arith) in
       cases (begins_row p)
@@ -74,7 +73,7 @@ module _ (K : Table) (R : RowLaws K) where
       (λ y. rw y (h u.state u.tally (row_leaves s c (length p + suc n + m) r (n + m) p (omega arith))))
       (λ y. rw y less)))
       (λ b. rw b less)
-  on_line_lem (line.Is x) s c p n m go h r =
+  on_line_lem (Some x) s c p n m go h r =
       cases (accepted (refusal K s x))
       (λ y. rw y (h (next K s x) (tallied K s x c) (step_leaves s c (length p + suc n + m) r (n + m) x (omega arith))))
       (λ y. rw y (less_roomy r (omega arith)))

@@ -4,14 +4,14 @@ use mathlib.Core.List.{List, [], ◌∷◌}
 use mathlib.Core.Path.{◌≡◌, refl, sym, ap, ◌∙◌}
 use lib.ListN.{length}
 use lib.Dec.{leb}
+use Rattle.std.specs.Prelude.{Option, Some, None}
 use Rattle.text.proofs.Picks.{cases}
 use Rattle.model.specs.Tests.{accepted}
 use Rattle.model.specs.Tables.{Table}
 use Rattle.model.specs.Rules.{refusal, next}
 use Rattle.model.specs.Cycles.{Verdict, none, kept, dropped, verdict}
 use Rattle.model.specs.declared.State.{State}
-use Rattle.model.specs.declared.Line.{Line}
-use Rattle.model.specs.declared.Line.TheVariants as line
+use Rattle.model.specs.declared.Step.{Step}
 use Rattle.logs.specs.Lines.{set_digits, read_step}
 use Rattle.saved.specs.Rows.{begins_row}
 use Rattle.report.specs.Rows.{cycle_of, cycle_text}
@@ -44,12 +44,12 @@ module _ (K : Table) where
   on_verdict_lem dropped s c room rest go h = h room
 
   -- a line with its newline
-  on_line_lem : (l : Line) (s : State) (c : Tally) (room : ℕ) (p : List ℕ) (here rest : List (List ℕ)) → ((w : State) (d : Tally) (n : ℕ) → passed K w d rest ≡ gone (played K w d n rest))
+  on_line_lem : (l : Option Step) (s : State) (c : Tally) (room : ℕ) (p : List ℕ) (here rest : List (List ℕ)) → ((w : State) (d : Tally) (n : ℕ) → passed K w d rest ≡ gone (played K w d n rest))
       → past_line K s c p l (λ w d. passed K w d rest) ≡ gone (on_line K s c room p l here rest (λ w d n. played K w d n rest))
-  on_line_lem line.Bad s c room p here rest h =
+  on_line_lem None s c room p here rest h =
       let u = resumed K s c p in
       cases (begins_row p) (λ b. rw b (cases (accepted u.number) (λ y. rw y (h u.state u.tally room)) (λ y. rw y))) (λ b. rw b)
-  on_line_lem (line.Is x) s c room p here rest h =
+  on_line_lem (Some x) s c room p here rest h =
       cases (accepted (refusal K s x))
       (λ y. rw y (on_verdict_lem (verdict K s x) (next K s x) (tallied K s x c) room rest _ (h (next K s x) (tallied K s x c))))
       (λ y. rw y)

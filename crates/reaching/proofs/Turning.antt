@@ -1,10 +1,9 @@
 -- A log gone through run by run, and the lines of a block: one law for each turn and each exit.
 use Prim.Native.Nat.{ℕ, ◌-◌, ◌≤◌, ◌<◌}
-use mathlib.Core.Bool.{Bool, true, false, not}
+use mathlib.Core.Bool.{Bool, true, false}
 use mathlib.Core.List.{List}
 use mathlib.Core.Path.{◌≡◌, refl, sym, subst, subst⁻¹, ◌∙◌}
 use native.Mathlib.Omega.{arith}
-use lib.Dec.{eqb}
 use lib.ListN.{length, take}
 use lib.Seq.{slice}
 use Rattle.text.specs.Parts.{split_on}
@@ -27,12 +26,7 @@ use Rattle.judging.specs.Report.{refusal_of}
 use Rattle.judging.proofs.Hands.{chunk_bytes}
 use Rattle.stream.specs.Chunk.{chunk_end}
 use Rattle.reaching.specs.Passing.{stays, passed, Passes, is_over, Turned}
-use Rattle.reaching.specs.declared.Ended.{Ended}
 use Rattle.reaching.proofs.Playing.{gone_on, run_gone}
-
--- whether it is over, where the input has not ended
-pub over_by : (ended : Bool) (n : ℕ) → ended ≡ false → not (eqb n 0) ≡ is_over ended n
-over_by ended n e = rw e
 
 -- what is left of a log from a place on comes to what the whole log comes to
 pub record Left (K : Table) (log : List ℕ) (g₀ g : Going) (at : ℕ) : Type 0 where
@@ -80,17 +74,17 @@ module _ {K : Table} {log : List ℕ} {g₀ g : Going} {at : ℕ} (l : Left K lo
     left_less = omega (arith, h.runs.within, h.runs.inside, h.runs.onward (true_T _ (is_closed_lem r.stop e)))
 
   -- at its end or a refusal it is over
-  pub left_over : is_closed r.stop ≡ false → {n : ℕ} → n ≡ refusal_of r.stop → Passes (passed K g₀.state g₀.tally (split_on 10 log)) (record { going = r.going; refusal = n })
-  left_over o {n} e =
+  pub left_over : is_closed r.stop ≡ false → Passes (passed K g₀.state g₀.tally (split_on 10 log)) r
+  left_over o =
       let w = l.same ∙ run_gone K h.runs ∙ gone_over K r.going.state r.going.tally r.stop (pieces log r.at) o h.whole in
-      subst⁻¹ (λ x. Passes x (record { going = r.going; refusal = n })) w (record { going = going_same h.runs.ready; refusal = e })
+      subst⁻¹ (λ x. Passes x r) w (record { going = going_same h.runs.ready; refusal = refl })
 
 -- the lines of a block that are gone through now
 module _ (block : List ℕ) (have : ℕ) (h : have ≤ length block) (ended : Bool) (end : ℕ) (e : end ≡ chunk_end ended (take have block)) where
   -- the turn
-  pub turned : {K : Table} {g : Going} {x : Ended} → Passes (passed K g.state g.tally (split_on 10 (take end block))) x → {done : Bool} → done ≡ is_over ended x.refusal
-      → {held : ℕ} {rest : List ℕ} → Put block 0 (slice end have block) held rest
-      → Turned K g ended block have (record { going = x.going; refusal = x.refusal; held = held; over = done }) rest
-  turned {K} {g} {x} p d z =
+  pub turned : {K : Table} {g : Going} {x : Ran} → Passes (passed K g.state g.tally (split_on 10 (take end block))) x → {n : ℕ} → n ≡ refusal_of x.stop
+      → {done : Bool} → done ≡ is_over ended n → {held : ℕ} {rest : List ℕ} → Put block 0 (slice end have block) held rest
+      → Turned K g ended block have (record { going = x.going; refusal = n; held = held; over = done }) rest
+  turned {K} {g} {x} p {n} y d z =
       let q = subst (λ b. Passes (passed K g.state g.tally (split_on 10 b)) x) (chunk_bytes block have h ended end e) p in
-      record { going = q.going; refusal = q.refusal; over = d; held = rw e at z }
+      record { going = q.going; refusal = y ∙ q.refusal; over = d; held = rw e at z }

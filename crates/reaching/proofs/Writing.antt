@@ -6,11 +6,9 @@ use native.Mathlib.Omega.{arith}
 use lib.Dec.{T}
 use lib.ListN.{length, take, drop, set, length-append}
 use lib.Seq.{sets, sets-eq, length-sets, take-append-le, take-length}
-use borrow.Author.Tests.{lt-ltb, le-ltb, le-leb, lt-leb}
+use borrow.Author.Tests.{le-leb}
 use Rattle.text.specs.Put.{Put}
 use Rattle.text.specs.Number.{digits}
-use Rattle.text.proofs.Picks.{order}
-use Rattle.text.proofs.Puts.{put_fits, put_short}
 use Rattle.text.proofs.Numbers.{length_digits, width_within}
 use Rattle.text.specs.Parts.{split_on}
 use Rattle.report.proofs.Lines.{Writing, writing_start, writing_put}
@@ -21,31 +19,25 @@ use Rattle.model.specs.Sound.{sound}
 use Rattle.model.specs.declared.State.{State}
 use Rattle.model.proofs.Soundness.{start_sound, of_sound}
 use Rattle.model.proofs.Tests.{true_T}
-use Rattle.prepared.specs.Prepared.{table_in, Prepared}
-use Rattle.table.specs.Checks.{says}
+use Rattle.prepared.specs.Held.{held}
+use Rattle.prepared.specs.declared.component.Component.{Component}
+use Rattle.table.specs.Checks.{accepts}
+use Rattle.table.specs.Checks as says
 use Rattle.table.specs.Tables.{table_of}
 use Rattle.table.specs.Texts.{read_table}
-use Rattle.table.specs.declared.Read.{Read}
-use Rattle.table.specs.declared.Answer.TheVariants as answer
+use Rattle.table.specs.declared.Table as rows
 use Rattle.tally.specs.Tallies.{most_count, no_tally, lines_of, Roomy}
 use Rattle.engine.specs.Starts.{fresh_going}
 use Rattle.engine.specs.declared.Going.{Going}
+use Rattle.engine.specs.declared.Ran.{Ran}
 use Rattle.saved.specs.Rows.{row_text}
-use Rattle.saved.proofs.Lengths.{row_short, row_long}
+use Rattle.saved.proofs.Lengths.{row_short}
 use Rattle.reaching.specs.Reaching.{row, refused, reach_at, log_reach, reach_on, pair_over, Reaches, reach_text}
 use Rattle.reaching.specs.Passing.{passed, Passes}
-use Rattle.reaching.specs.declared.Ended.{Ended}
+use Rattle.judging.specs.Report.{refusal_of}
 use Rattle.judging.proofs.Reporting.{roomy_lines}
 use Rattle.reaching.proofs.Ending.{log_ends, passed_sound}
 use Rattle.reaching.proofs.Leaving.{passed_roomy}
-
--- a pair lent too short is left alone
-pub pair_short : (ns pair : List ℕ) → length pair < 2 → pair ≡ pair_over ns pair
-pair_short ns pair h = rw (lt-ltb _ _ h)
-
--- any other is stored
-pub pair_stored : (pair : List ℕ) (n l : ℕ) → 2 ≤ length pair → set (set pair 0 n) 1 l ≡ pair_over (n ∷ l ∷ []) pair
-pair_stored pair n l h = rw (le-ltb _ _ h)
 
 -- a text was written to the front of a buffer that holds it
 module _ (buf text after : List ℕ) (n : ℕ) (h : length text ≤ length buf) (e : n ≡ length text) (w : after ≡ sets buf 0 text) where
@@ -58,33 +50,6 @@ module _ (buf text after : List ℕ) (n : ℕ) (h : length text ≤ length buf) 
   -- where they were put, it was
   front_put : {out out' : List ℕ} {r : ℕ} → Put out 0 (take n after) r out' → Put out 0 text r out'
   front_put {out} {out'} {r} p = subst (λ x. Put out 0 x r out') front_is p
-
--- a row put into a lent buffer
-module _ (text : List ℕ) (some : 0 < length text) (out pair : List ℕ) {e : ℕ} {out' : List ℕ} (p : Put out 0 text e out') {pair' : List ℕ} where
-  -- it does not fit
-  pub row_none : e ≡ 0 → pair' ≡ pair_over (31 ∷ 0 ∷ []) pair → Reaches (row text) out pair 0 out' pair'
-  row_none z q =
-      order (length out) (length text)
-      (λ h. record { size = rw (lt-leb _ _ h); bytes = (put_short (omega arith) p).1 ∙ rw (lt-leb _ _ h); numbers = rw (lt-leb _ _ h) q })
-      (λ h. absurd (omega (arith, (put_fits (omega arith) p).0)))
-
-  -- it does
-  pub row_put : (e ≡ 0 → ⊥) → pair' ≡ pair_over (0 ∷ 0 ∷ []) pair → Reaches (row text) out pair e out' pair'
-  row_put z q =
-      order (length out) (length text)
-      (λ h. absurd (z (put_short (omega arith) p).0))
-      (λ h. let f = put_fits (omega arith) p in record { size = rw (le-leb _ _ h) (omega (arith, f.0)); bytes = f.1 ∙ rw (le-leb _ _ h); numbers = rw (le-leb _ _ h) q })
-
--- what the program tells in the end
-module _ (K : Table) (s : State) (out : List ℕ) {r : ℕ} {after : List ℕ} where
-  -- the row
-  pub end_row_lem : (n l : ℕ) → n ≡ 0 → Put out 0 (row_text K s) r after → Put out 0 (reach_text (reach_at K s n l)) r after
-  end_row_lem n l e p = rw e p
-
-  -- or the refusal
-  pub end_refused : (n l : ℕ) → (n ≡ 0 → ⊥) → Put out 0 (reach_text (refused n (l + 1))) r after → Put out 0 (reach_text (reach_at K s n l)) r after
-  end_refused zero l z p = absurd (z refl)
-  end_refused (suc n) l z p = p
 
 -- a byte is written
 byte : {buf text at q : List ℕ} {b p : ℕ} → Writing buf 0 text at p (b ∷ q) → Writing buf 0 text (set at p b) (p + 1) q
@@ -133,35 +98,31 @@ module _ (buf : List ℕ) (k : length buf ≡ 48) (n l : ℕ) where
       pub refusal_put : {out after : List ℕ} {r : ℕ} → Put out 0 (take (q + 1) (set b₂ q 10)) r after → Put out 0 (reach_text (refused n l)) r after
       refusal_put p = let w = whole in front_put buf (reach_text (refused n l)) (set b₂ q 10) (q + 1) (omega (arith, w.room)) (omega (arith, w.wide)) w.same p
 
--- a row is never empty
-pub row_some : (K : Table) (s : State) → 0 < length (row_text K s)
-row_some K s = omega (arith, row_long K s)
-
 -- the row of a sound state was written to the front of a buffer that holds any
-module _ {rows index : List ℕ} (P : Prepared rows index) (s : State) (S : T (sound (table_in rows index) s)) (buf : List ℕ) (k : length buf ≡ 4095) {n : ℕ} {after : List ℕ}
-    (e : (n ≡ length (row_text (table_in rows index) s)) × (after ≡ sets buf 0 (row_text (table_in rows index) s))) where
+module _ (c : Component) (s : State) (S : T (sound (held c) s)) (buf : List ℕ) (k : length buf ≡ 4095) {n : ℕ} {after : List ℕ}
+    (e : (n ≡ length (row_text (held c) s)) × (after ≡ sets buf 0 (row_text (held c) s))) where
   -- the buffer holds it
-  row_fits : length (row_text (table_in rows index) s) ≤ length buf
-  row_fits = omega (arith, row_short (table_in rows index) P.formed s S)
+  row_fits : length (row_text (held c) s) ≤ length buf
+  row_fits = omega (arith, row_short (held c) c.prepared.formed s S)
 
   -- it lies within the buffer
   pub row_room : n ≤ length after
-  row_room = omega (arith, row_fits, e.0, ap length e.1, length-sets buf 0 (row_text (table_in rows index) s))
+  row_room = omega (arith, row_fits, e.0, ap length e.1, length-sets buf 0 (row_text (held c) s))
 
   -- where its bytes were put, it was
-  pub row_bytes : {out out' : List ℕ} {r : ℕ} → Put out 0 (take n after) r out' → Put out 0 (row_text (table_in rows index) s) r out'
-  row_bytes p = front_put buf (row_text (table_in rows index) s) after n row_fits e.0 e.1 p
+  pub row_bytes : {out out' : List ℕ} {r : ℕ} → Put out 0 (take n after) r out' → Put out 0 (row_text (held c) s) r out'
+  row_bytes p = front_put buf (row_text (held c) s) after n row_fits e.0 e.1 p
 
--- a log gone through from the fresh state against a table as it lies in memory, which is L
-module _ {rows index : List ℕ} (P : Prepared rows index) {L : Table} (e : table_in rows index ≡ L) (log : List ℕ) (g : Going) (f : g ≡ fresh_going) {x : Ended}
-    (p : Passes (passed (table_in rows index) g.state g.tally (split_on 10 log)) x) where
+-- a log gone through from the fresh state against a component, which holds L
+module _ (c : Component) {L : Table} (e : held c ≡ L) (log : List ℕ) (g : Going) (f : g ≡ fresh_going) {x : Ran}
+    (p : Passes (passed (held c) g.state g.tally (split_on 10 log)) x) where
   -- the table
   abbrev K : Table
-  K = table_in rows index
+  K = held c
 
   -- it is well formed
   wf : T (wellformed K)
-  wf = true_T _ P.formed
+  wf = true_T _ c.prepared.formed
 
   -- what the log comes to from the fresh state
   from_fresh : Passes (passed K fresh no_tally (split_on 10 log)) x
@@ -169,7 +130,7 @@ module _ {rows index : List ℕ} (P : Prepared rows index) {L : Table} (e : tabl
   from_fresh = rw f at p
 
   -- where it ends is the answer
-  ended : reach_at K x.going.state x.refusal (lines_of x.going.tally) ≡ log_reach L log
+  ended : reach_at K x.going.state (refusal_of x.stop) (lines_of x.going.tally) ≡ log_reach L log
   ended = let q = from_fresh in rw (q.going, q.refusal, ← e) (log_ends K wf log)
 
   -- its state is sound
@@ -185,25 +146,25 @@ module _ {rows index : List ℕ} (P : Prepared rows index) {L : Table} (e : tabl
 
   module _ (out pair : List ℕ) {pair' : List ℕ} where
     -- it is refused
-    pub log_refused : (x.refusal ≡ 0 → ⊥) → pair' ≡ pair_over (x.refusal ∷ (lines_of x.going.tally + 1) ∷ []) pair → Reaches (log_reach L log) out pair 0 out pair'
-    log_refused z q = subst (λ y. Reaches y out pair 0 out pair') ended (at x.refusal z q)
+    pub log_refused : {n m : ℕ} → n ≡ refusal_of x.stop → (n ≡ 0 → ⊥) → m ≡ lines_of x.going.tally → pair' ≡ pair_over (n ∷ (m + 1) ∷ []) pair → Reaches (log_reach L log) out pair 0 out pair'
+    log_refused {n} y z l q = subst (λ y. Reaches y out pair 0 out pair') (ap (λ m. reach_at K x.going.state m (lines_of x.going.tally)) y ∙ ended) (at n z (rw l at q))
       where
         at : (n : ℕ) → (n ≡ 0 → ⊥) → pair' ≡ pair_over (n ∷ (lines_of x.going.tally + 1) ∷ []) pair → Reaches (reach_at K x.going.state n (lines_of x.going.tally)) out pair 0 out pair'
         at zero z q = absurd (z refl)
         at (suc n) z q = record { size = refl; bytes = refl; numbers = q }
 
     -- its row is put
-    pub log_row : {r : ℕ} {out' : List ℕ} → x.refusal ≡ 0 → Reaches (row (row_text K x.going.state)) out pair r out' pair' → Reaches (log_reach L log) out pair r out' pair'
-    log_row {r} {out'} z h = subst (λ y. Reaches y out pair r out' pair') (ap (λ n. reach_at K x.going.state n (lines_of x.going.tally)) (sym z) ∙ ended) h
+    pub log_row : {n : ℕ} → n ≡ refusal_of x.stop → {r : ℕ} {out' : List ℕ} → n ≡ 0 → Reaches (row (row_text K x.going.state)) out pair r out' pair' → Reaches (log_reach L log) out pair r out' pair'
+    log_row {n} y {r} {out'} z h = subst (λ y. Reaches y out pair r out' pair') (ap (λ m. reach_at K x.going.state m (lines_of x.going.tally)) (sym z ∙ y) ∙ ended) h
 
 -- a table's text and a log
-module _ (s log : List ℕ) (r : Read) (e : says r ≡ read_table s) {out pair pair' : List ℕ} where
+module _ (s log : List ℕ) {out pair pair' : List ℕ} where
   -- the table is accepted
-  pub table_fine : r.answer ≡ answer.Fine → {n : ℕ} {out' : List ℕ} → Reaches (log_reach (table_of r.table) log) out pair n out' pair' → Reaches (reach_on s log) out pair n out' pair'
+  pub table_fine : {t : rows.Table} → accepts t ≡ read_table s → {n : ℕ} {out' : List ℕ} → Reaches (log_reach (table_of t) log) out pair n out' pair' → Reaches (reach_on s log) out pair n out' pair'
   unfolding reach_on
-  table_fine u p = rw (← e, u) p
+  table_fine e p = rw (← e) p
 
   -- it is refused
-  pub table_refused : (n l : ℕ) → r.answer ≡ answer.Refused n l → pair' ≡ pair_over (n ∷ l ∷ []) pair → Reaches (reach_on s log) out pair 0 out pair'
+  pub table_refused : {m n l : ℕ} → says.refused m l ≡ read_table s → n ≡ m → pair' ≡ pair_over (n ∷ l ∷ []) pair → Reaches (reach_on s log) out pair 0 out pair'
   unfolding reach_on
-  table_refused n l u q = rw (← e, u) (record { size = refl; bytes = refl; numbers = q })
+  table_refused e y q = rw (← e, ← y) (record { size = refl; bytes = refl; numbers = q })

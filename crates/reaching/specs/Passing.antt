@@ -1,5 +1,5 @@
 -- A log gone through line after line, with nothing told of it, as the code does it; and block after block, as the program reads standard input.
-use Rattle.std.specs.Prelude.{ℕ, Bool, true, false, not, List, [], ◌∷◌, ◌++◌, ◌≡◌, get_or, take, drop}
+use Rattle.std.specs.Prelude.{ℕ, Bool, true, false, not, List, [], ◌∷◌, ◌++◌, ◌≡◌, get_or, take, drop, Option, Some, None}
 use Rattle.text.specs.Parts.{pick, split_on}
 use Rattle.text.specs.Put.{Put}
 use Rattle.model.specs.Tests.{◌or◌, accepted}
@@ -8,8 +8,6 @@ use Rattle.model.specs.Rules.{refusal, next}
 use Rattle.model.specs.States.{fresh}
 use Rattle.model.specs.declared.State.{State}
 use Rattle.model.specs.declared.Step.{Step}
-use Rattle.model.specs.declared.Line.{Line}
-use Rattle.model.specs.declared.Line.TheVariants as line
 use Rattle.logs.specs.Lines.{set_digits, read_step}
 use Rattle.table.specs.Tables.{table_of}
 use Rattle.table.specs.Texts.{read_table}
@@ -19,10 +17,11 @@ use Rattle.tally.specs.declared.Tally.{Tally}
 use Rattle.entries.specs.Entries.{Resumed, resumed}
 use Rattle.engine.specs.Starts.{going_at}
 use Rattle.engine.specs.declared.Going.{Going}
+use Rattle.engine.specs.declared.Ran.{Ran}
 use Rattle.stream.specs.Cut.{cut_of, cut_known}
 use Rattle.stream.specs.Chunk.{chunk_end}
+use Rattle.judging.specs.Report.{refusal_of}
 use Rattle.reaching.specs.Reaching.{Reach, refused, reach_at}
-use Rattle.reaching.specs.declared.Ended.{Ended}
 use Rattle.reaching.specs.declared.Turn.{Turn}
 
 -- what a log comes to: the state and the tally reached, and the refusal, 0 for none
@@ -40,9 +39,9 @@ past_step K s c x go = pick (accepted (refusal K s x)) (go (next K s x) (tallied
 abbrev pub past_row : State → Tally → Resumed → (State → Tally → Passed) → Passed
 past_row s c r go = pick (accepted r.number) (go r.state r.tally) (stays s c r.number)
 
-abbrev pub past_line : Table → State → Tally → List ℕ → Line → (State → Tally → Passed) → Passed
-past_line K s c p (line.Is x) go = past_step K s c x go
-past_line K s c p line.Bad go = pick (begins_row p) (past_row s c (resumed K s c p) go) (stays s c 11)
+abbrev pub past_line : Table → State → Tally → List ℕ → Option Step → (State → Tally → Passed) → Passed
+past_line K s c p (Some x) go = past_step K s c x go
+past_line K s c p None go = pick (begins_row p) (past_row s c (resumed K s c p) go) (stays s c 11)
 
 abbrev pub past_last : State → Tally → List ℕ → Passed
 past_last s c [] = stays s c 0
@@ -55,9 +54,9 @@ passed K s c (p ∷ []) = past_last s c p
 passed K s c (p ∷ q ∷ ps) = past_line K s c p (read_step set_digits p) (λ w d. passed K w d (q ∷ ps))
 
 -- what the code hands back of it
-pub record Passes (x : Passed) (r : Ended) : Type 0 where
+pub record Passes (x : Passed) (r : Ran) : Type 0 where
   pub going : r.going ≡ going_at x.state x.tally
-  pub refusal : r.refusal ≡ x.number
+  pub refusal : refusal_of r.stop ≡ x.number
 
 -- where it ends
 abbrev pub end_of : Table → Passed → Reach

@@ -8,28 +8,26 @@ ghost use Rattle.text.specs.Put.{Put};
 ghost use Rattle.model.specs.Sound.{sound};
 ghost use Rattle.table.specs.Checks.{Passes as accepts};
 ghost use Rattle.table.specs.Tables.{table_of};
-ghost use Rattle.prepared.specs.Prepared.{table_in, Prepared};
+ghost use Rattle.prepared.specs.Held.{held};
 ghost use Rattle.saved.specs.Rows.{row_text};
 ghost use Rattle.tally.specs.Tallies.{most_count, lines_of, Roomy};
 ghost use Rattle.engine.specs.Play.{Ready};
 ghost use Rattle.reaching.specs.Reaching.{row, refused, reach_at, log_reach, reach_on, pair_over, Reaches, reach_text};
-ghost use Rattle.reaching.specs.Passing.{is_over, passed, Passes, Turned};
+ghost use Rattle.reaching.specs.Passing.{passed, Passes, Turned};
 
-use engine::{Going, Stop};
+use engine::{Going, Ran, Stop};
 use model::State;
-use table::{Answer, Table};
+use prepared::Component;
+use table::Table;
 
 // How much room the rows of kept cycles have, which are not told here.
 const SCRATCH: usize = 4096;
 
-// Where a log ended: what goes on behind its last accepted line, and the refusal, 0 for none.
-#[derive(Clone, Copy)]
-pub struct Ended {
-    pub going: Going,
-    pub refusal: u64,
-}
+// What the pair has for an answer that does not fit.
+const NO_ROOM: u64 = 31;
 
-// A block that was gone through: where the log stands, the refusal, how many bytes are held for the next block, and whether it is over.
+// A block that was gone through: where the log stands, the refusal, how many bytes are held for the next block, and whether it is over. The
+// refusal is the number that `put_end` takes, 0 for none.
 #[derive(Clone, Copy)]
 pub struct Turn {
     pub going: Going,
@@ -39,69 +37,65 @@ pub struct Turn {
 }
 
 // Goes through a log's lines, up to its end or the first refusal, and tells nothing of them.
-fn pass(rows: &[u32], index: &[u32], log: &[u8], g: Going) -> Ended
-    requires { Prepared rows.now index.now × Ready (table_in rows.now index.now) g × Roomy g.tally (length log.now) }
-    ensures { Passes (passed (table_in rows.now index.now) g.state g.tally (split_on 10 log.now)) result }
+fn pass(component: &Component, log: &[u8], start: Going) -> Ran
+    requires { Ready (held component.now) start × Roomy start.tally (length log.now) }
+    ensures { Passes (passed (held component.now) start.state start.tally (split_on 10 log.now)) result }
 {
     let mut scratch = [0u8; SCRATCH];
-    let mut going = g;
+    let mut going = start;
     let mut at = 0;
     loop {
-        let ran = playing::play(rows, index, log, at, going, &mut scratch, 0);
-        let stop = ran.stop;
+        let ran = playing::play(component, log, at, going, &mut scratch, 0);
+        let Stop::Closed(_) = ran.stop else {
+            return ran;
+        };
         going = ran.going;
         at = ran.at;
-        let Stop::Closed(_) = stop else {
-            return Ended {
-                going: going,
-                refusal: judging::refusal_of(stop),
-            };
-        };
     }
 }
 
 // Stores a refusal's number and line; a pair lent too short is left alone.
-fn put_pair(pair: &mut [u64], n: u64, line: u64)
-    ensures { pair.new ≡ pair_over (n ∷ line ∷ []) pair.old }
+fn put_pair(pair: &mut [u64], number: u64, line: u64)
+    ensures { pair.new ≡ pair_over (number ∷ line ∷ []) pair.old }
 {
-    if pair.len() < 2 {
-        return;
+    if pair.len() >= 2 {
+        pair[..2].copy_from_slice(&[number, line]);
     }
-    pair[0] = n;
-    pair[1] = line;
 }
 
 // Writes a sound state's row, or nothing where it does not fit.
-fn put_reached(rows: &[u32], index: &[u32], s: State, out: &mut [u8], pair: &mut [u64]) -> usize
-    requires { Prepared rows.now index.now × T (sound (table_in rows.now index.now) s) }
-    ensures { Reaches (row (row_text (table_in rows.now index.now) s)) out.old pair.old result out.new pair.new }
+fn put_row(component: &Component, state: State, out: &mut [u8]) -> usize
+    requires { T (sound (held component.now) state) }
+    ensures { Put out.old 0 (row_text (held component.now) state) result out.new }
 {
     let mut text = [0u8; logs::LONGEST_ROW];
-    let n = saved::put_state(rows, index, s, &mut text);
-    let e = text::put_bytes(out, 0, &text[..n]);
-    if e == 0 {
-        put_pair(pair, 31, 0);
-        return 0;
-    }
-    put_pair(pair, 0, 0);
-    e
+    let length = saved::put_state(component, state, &mut text);
+    text::put_bytes(out, 0, &text[..length])
+}
+
+// The row reached, and what the pair says of it.
+fn put_reached(component: &Component, state: State, out: &mut [u8], pair: &mut [u64]) -> usize
+    requires { T (sound (held component.now) state) }
+    ensures { Reaches (row (row_text (held component.now) state)) out.old pair.old result out.new pair.new }
+{
+    let end = put_row(component, state, out);
+    put_pair(pair, if end == 0 { NO_ROOM } else { 0 }, 0);
+    end
 }
 
 // The row that a log reaches, judged against an accepted table.
-fn reach_log(t: Table, log: &[u8], out: &mut [u8], pair: &mut [u64]) -> usize
-    requires { accepts t }
-    ensures { Reaches (log_reach (table_of t) log.now) out.old pair.old result out.new pair.new }
+fn reach_log(table: Table, log: &[u8], out: &mut [u8], pair: &mut [u64]) -> usize
+    requires { accepts table }
+    ensures { Reaches (log_reach (table_of table) log.now) out.old pair.old result out.new pair.new }
 {
-    let index = preparing::index_of(t);
-    let rows = t.rows;
-    let end = pass(&rows, &index, log, engine::fresh_going());
-    let g = end.going;
-    let c = g.tally;
-    if end.refusal != 0 {
-        put_pair(pair, end.refusal, c.steps + c.rows + 1);
+    let component = preparing::prepare(table);
+    let ran = pass(&component, log, engine::fresh_going());
+    let refusal = judging::refusal_of(ran.stop);
+    if refusal != 0 {
+        put_pair(pair, refusal, ran.going.tally.lines() + 1);
         return 0;
     }
-    put_reached(&rows, &index, g.state, out, pair)
+    put_reached(&component, ran.going.state, out, pair)
 }
 
 // The recorder's call: the row of the state behind a log's last line, with its newline. Answers its length; or 0 with the buffer unchanged where
@@ -110,76 +104,60 @@ fn reach_log(t: Table, log: &[u8], out: &mut [u8], pair: &mut [u64]) -> usize
 pub fn reached(table: &[u8], log: &[u8], out: &mut [u8], pair: &mut [u64]) -> usize
     ensures { Reaches (reach_on table.now log.now) out.old pair.old result out.new pair.new }
 {
-    let read = table::read_table(table);
-    let answer = read.answer;
-    let t = read.table;
-    match answer {
-        Answer::Fine => reach_log(t, log, out, pair),
-        Answer::Refused(n, line) => {
-            put_pair(pair, n, line as u64);
+    match table::read_table(table) {
+        Ok(table) => reach_log(table, log, out, pair),
+        Err(refused) => {
+            put_pair(pair, refused.fault.number(), refused.line as u64);
             0
         }
     }
 }
 
-// Is it over, where the input has ended or not, with this refusal?
-fn is_over(ended: bool, refusal: u64) -> bool
-    ensures { result ≡ is_over ended refusal }
-{
-    if ended {
-        return true;
-    }
-    refusal != 0
-}
-
 // Goes through the whole lines of the log's bytes at the front of the block, all of them where the input has ended, and moves the bytes left to
 // the front.
 pub fn reach_block(
-    rows: &[u32],
-    index: &[u32],
+    component: &Component,
     block: &mut [u8],
     have: usize,
     ended: bool,
-    g: Going,
+    going: Going,
 ) -> Turn
-    requires { Prepared rows.now index.now × Ready (table_in rows.now index.now) g × Roomy g.tally have × (have ≤ length block.old) }
-    ensures { Turned (table_in rows.now index.now) g ended block.old have result block.new }
+    requires { Ready (held component.now) going × Roomy going.tally have × (have ≤ length block.old) }
+    ensures { Turned (held component.now) going ended block.old have result block.new }
 {
     let end = stream::chunk_end(&block[..have], ended);
-    let past = pass(rows, index, &block[..end], g);
+    let ran = pass(component, &block[..end], going);
     let held = stream::to_front(block, end, have);
-    let refusal = past.refusal;
-    let going = past.going;
+    let refusal = judging::refusal_of(ran.stop);
     Turn {
-        going: going,
-        refusal: refusal,
-        held: held,
-        over: is_over(ended, refusal),
+        going: ran.going,
+        refusal,
+        held,
+        over: ended || refusal != 0,
     }
 }
 
-// Writes what the program tells in the end: the row, or the refusal's number and line.
-pub fn put_end(rows: &[u32], index: &[u32], out: &mut [u8], g: Going, refusal: u64) -> usize
-    requires { Prepared rows.now index.now × T (sound (table_in rows.now index.now) g.state) × (lines_of g.tally ≤ most_count) }
-    ensures { Put out.old 0 (reach_text (reach_at (table_in rows.now index.now) g.state refusal (lines_of g.tally))) result out.new }
+// Writes what the program tells in the end: the row, or the refusal's number and line. The refusal is a number here, 0 for none, as in
+// `put_refusal`: the text is promised for any.
+pub fn put_end(component: &Component, out: &mut [u8], going: Going, refusal: u64) -> usize
+    requires { T (sound (held component.now) going.state) × (lines_of going.tally ≤ most_count) }
+    ensures { Put out.old 0 (reach_text (reach_at (held component.now) going.state refusal (lines_of going.tally))) result out.new }
 {
-    let mut text = [0u8; logs::LONGEST_ROW];
     if refusal == 0 {
-        let n = saved::put_state(rows, index, g.state, &mut text);
-        return text::put_bytes(out, 0, &text[..n]);
+        put_row(component, going.state, out)
+    } else {
+        put_refusal(out, refusal, going.tally.lines() + 1)
     }
-    let c = g.tally;
-    put_refusal(out, refusal, c.steps + c.rows + 1)
 }
 
 // Writes a refusal's number and line, or nothing where they do not fit.
-pub fn put_refusal(out: &mut [u8], n: u64, line: u64) -> usize
-    ensures { Put out.old 0 (reach_text (refused n line)) result out.new }
+pub fn put_refusal(out: &mut [u8], number: u64, line: u64) -> usize
+    ensures { Put out.old 0 (reach_text (refused number line)) result out.new }
 {
     let mut text = [0u8; 48];
-    let p = text::put_number(&mut text, 0, n);
-    text[p] = text::TAB;
-    let q = text::put_number(&mut text, p + 1, line);
-    text[q] = text::NEWLINE;
-    text::put_bytes(out, 0, &text[..q + 1])
+    let tab = text::put_number(&mut text, 0, number);
+    text[tab] = text::TAB;
+    let newline = text::put_number(&mut text, tab + 1, line);
+    text[newline] = text::NEWLINE;
+    text::put_bytes(out, 0, &text[..newline + 1])
 }

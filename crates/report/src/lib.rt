@@ -24,13 +24,11 @@ pub fn line_width(letters: usize, numbers: &[u64]) -> usize
     requires { (letters ≤ 6) × (length numbers.now ≤ 9) }
     ensures { result ≡ letters + length (numbers_text numbers.now) }
 {
-    let mut w = letters + 1;
-    let mut i = 0;
-    while i < numbers.len() {
-        w += 1 + text::width(numbers[i]);
-        i += 1;
+    let mut width = letters + 1;
+    for n in numbers {
+        width += 1 + text::width(*n);
     }
-    w
+    width
 }
 
 // Writes a word with its numbers, or nothing where the line does not fit.
@@ -38,16 +36,14 @@ pub fn put_line(buf: &mut [u8], at: usize, word: &[u8], numbers: &[u64]) -> usiz
     requires { (length word.now ≤ 6) × (length numbers.now ≤ 9) }
     ensures { Put buf.old at (line_text word.now numbers.now) result buf.new }
 {
-    let w = line_width(word.len(), numbers);
-    if !text::fits(buf.len(), at, w) {
+    let width = line_width(word.len(), numbers);
+    if !text::fits(buf.len(), at, width) {
         return at;
     }
     let mut place = text::put_bytes(buf, at, word);
-    let mut i = 0;
-    while i < numbers.len() {
+    for n in numbers {
         buf[place] = text::TAB;
-        place = text::put_number(buf, place + 1, numbers[i]);
-        i += 1;
+        place = text::put_number(buf, place + 1, *n);
     }
     buf[place] = text::NEWLINE;
     place + 1
@@ -57,28 +53,26 @@ pub fn put_line(buf: &mut [u8], at: usize, word: &[u8], numbers: &[u64]) -> usiz
 pub fn put_head(buf: &mut [u8]) -> usize
     ensures { Put buf.old 0 head_text result buf.new }
 {
-    let numbers = [LAYOUT; 1];
-    put_line(buf, 0, b"cycles", &numbers)
+    put_line(buf, 0, b"cycles", &[LAYOUT])
 }
 
 // The numbers of a kept cycle's row.
 fn cycle_numbers(k: Cycle) -> [u64; 6]
     ensures { result ≡ cycle_numbers k }
 {
-    let mut n = [0u64; 6];
-    n[0] = k.task as u64;
-    n[1] = k.cycle;
-    n[2] = k.opened;
-    n[3] = k.closed;
-    n[4] = k.missed;
-    n[5] = k.longest;
-    n
+    [
+        k.task as u64,
+        k.cycle,
+        k.opened,
+        k.closed,
+        k.missed,
+        k.longest,
+    ]
 }
 
 // Writes the row of a kept cycle, or nothing where it does not fit.
 pub fn put_cycle(buf: &mut [u8], at: usize, k: Cycle) -> usize
     ensures { Put buf.old at (cycle_text k) result buf.new }
 {
-    let numbers = cycle_numbers(k);
-    put_line(buf, at, b"kept", &numbers)
+    put_line(buf, at, b"kept", &cycle_numbers(k))
 }

@@ -1,6 +1,5 @@
 pub mod Tables
 pub mod Fields
 pub mod Rows
-pub mod Values
 pub mod Reading
 pub mod Writing

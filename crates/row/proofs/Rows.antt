@@ -10,24 +10,18 @@ use borrow.Author.Tests.{le-leb, leb-true, eqb-true}
 use Rattle.text.specs.Parts.{split_on, join_on, free, all_free}
 use Rattle.text.specs.Words.{word_in, word_at}
 use Rattle.text.specs.Fields.{ether_value}
-use Rattle.text.specs.declared.Number.{Number}
-use Rattle.text.specs.declared.Number.TheVariants as number
-use Rattle.text.specs.declared.Word.{Word}
-use Rattle.text.specs.declared.Word.TheVariants as word
 use Rattle.text.proofs.Digits.{free_append}
-use Rattle.text.proofs.Picks.{cases, picked, false_true}
+use Rattle.text.proofs.Picks.{picked, false_true}
 use Rattle.text.proofs.Parts.{split_join, split_cut, join_split}
 use Rattle.text.proofs.Words.{word_read, word_written}
-use Rattle.row.specs.Kinds.{no_field, words_in, kinds, end_kind, word_of, form_of, kind_in}
-use Rattle.row.specs.Row.{read_form, on_number, with_field, at_end, fields_in, on_word, row_in, read_row, field_text, row_parts, row_line, row_text, tabbed, form_ok, row_ok}
+use Rattle.row.specs.Kinds.{words_in, kinds, end_kind, word_of, form_of, kind_in}
+use Rattle.row.specs.Row.{read_form, with_field, at_end, fields_in, row_in, read_row, field_text, row_parts, row_line, row_text, tabbed, form_ok, row_ok}
 use Rattle.row.specs.declared.Row.{Row}
-use Rattle.row.specs.declared.Line.{Line}
-use Rattle.row.specs.declared.Line.TheVariants.{Is, Bad}
+use Rattle.row.specs.declared.Form.{Form}
 use Rattle.row.proofs.Tables.{free_high, words_at, word_high}
 use Rattle.row.proofs.Fields.{value_reads, value_read, value_free, value_most}
-
-bad_is : {r : Row} → Bad ≡ Is r → ⊥
-bad_is e = let z : ◌≡◌ {A = ℕ} 0 1 = cc in omega arith
+use Rattle.std.specs.Prelude.{Option, Some, None, option_and_then}
+use Rattle.std.proofs.lemmas.Option.{none-some}
 
 -- the row words: each is read as its place, and what is read as a place is that word
 abbrev row_words : List ℕ
@@ -37,11 +31,11 @@ word_there : (k : ℕ) → word_at row_words k ≡ word_of k
 unfolding word_at word_of
 word_there k = words_at kinds k
 
-kind_reads : (k : ℕ) → k ≤ end_kind → kind_in (word_of k) ≡ word.Is k
+kind_reads : (k : ℕ) → k ≤ end_kind → kind_in (word_of k) ≡ Some k
 unfolding kind_in word_in
 kind_reads k h = rw (← word_there k) (word_written row_words k refl (omega arith))
 
-kind_read : (w : List ℕ) (k : ℕ) → kind_in w ≡ word.Is k → (word_of k ≡ w) × (k ≤ end_kind)
+kind_read : (w : List ℕ) (k : ℕ) → kind_in w ≡ Some k → (word_of k ≡ w) × (k ≤ end_kind)
 unfolding kind_in word_in
 kind_read w k u = let r = word_read row_words w k u in rw (← word_there k) (r.0, omega arith)
 
@@ -75,49 +69,38 @@ row_bounds r h =
       c = value_most _ _ y.1;
     }
 
--- a form without field takes none
-pub with_none : (form : ℕ) (ps : List (List ℕ)) (k : ℕ → List (List ℕ) → Line) → eqb form no_field ≡ true → with_field form ps k ≡ k 0 ps
-with_none form [] k e = rw e
-with_none form (p ∷ ps) k e = rw e
-
 -- what is written of a value is taken as it
-with_reads : (form v : ℕ) (ps : List (List ℕ)) (k : ℕ → List (List ℕ) → Line) → form_ok form v ≡ true → with_field form (field_text form v ++ ps) k ≡ k v ps
+with_reads : (f : Option Form) (v : ℕ) (ps : List (List ℕ)) (k : ℕ → List (List ℕ) → Option Row) → form_ok f v ≡ true → with_field f (field_text f v ++ ps) k ≡ k v ps
 unfolding form_ok
-with_reads form v ps k h =
-    cases (eqb form no_field)
-    (λ e. let z : 0 ≡ v = sym (eqb-true v 0 (rw e at h)) in rw e (with_none form ps k e ∙ rw z))
-    (λ e. rw (e, e, value_reads form v e h))
+with_reads None v ps k h = let z : 0 ≡ v = sym (eqb-true v 0 h) in rw z
+with_reads (Some f) v ps k h = rw (value_reads f v h)
 
 -- what is taken is what is written of a value
-record Taken (form : ℕ) (ps : List (List ℕ)) (k : ℕ → List (List ℕ) → Line) (r : Row) : Type 0 where
+record Taken (f : Option Form) (ps : List (List ℕ)) (k : ℕ → List (List ℕ) → Option Row) (r : Row) : Type 0 where
   value : ℕ
   rest : List (List ℕ)
-  cut : ps ≡ field_text form value ++ rest
-  then : k value rest ≡ Is r
-  ok : form_ok form value ≡ true
+  cut : ps ≡ field_text f value ++ rest
+  then : k value rest ≡ Some r
+  ok : form_ok f value ≡ true
 
-with_read : (form : ℕ) (ps : List (List ℕ)) (k : ℕ → List (List ℕ) → Line) (r : Row) → with_field form ps k ≡ Is r → Taken form ps k r
+with_read : (f : Option Form) (ps : List (List ℕ)) (k : ℕ → List (List ℕ) → Option Row) (r : Row) → with_field f ps k ≡ Some r → Taken f ps k r
 unfolding form_ok
-with_read form ps k r h =
-    cases (eqb form no_field)
-    (λ e. record { value = 0; rest = ps; cut = rw e; then = sym (with_none form ps k e) ∙ h; ok = rw e })
-    (λ e. some ps e h)
+with_read None ps k r h = record { value = 0; rest = ps; cut = refl; then = h; ok = refl }
+with_read (Some f) [] k r h = absurd (none-some _ h)
+with_read (Some f) (p ∷ ps) k r h = value (read_form f p) refl h
   where
-    value : (p : List ℕ) (ps : List (List ℕ)) (n : Number) → read_form form p ≡ n → eqb form no_field ≡ false → on_number n (λ v. k v ps) ≡ Is r → Taken form (p ∷ ps) k r
-    value p ps (number.Is v) u e h = let t = value_read form v p e u in record { value = v; rest = ps; cut = rw (e, t.0); then = h; ok = t.1 }
-    value p ps number.Bad u e h = absurd (bad_is h)
-
-    some : (ps : List (List ℕ)) → eqb form no_field ≡ false → with_field form ps k ≡ Is r → Taken form ps k r
-    some [] e h = absurd (bad_is (rw e at h))
-    some (p ∷ ps) e h = value p ps (read_form form p) refl e (rw e at h)
+    value : (n : Option ℕ) → read_form f p ≡ n → option_and_then (λ v. k v ps) n ≡ Some r → Taken (Some f) (p ∷ ps) k r
+    value (Some v) u e = let t = value_read f v p u in record { value = v; rest = ps; cut = rw t.0; then = e; ok = t.1 }
+    value None u e = absurd (none-some _ e)
 
 -- the parts of a row, field after field
 parts_are : (r : Row) → row_parts r ≡ word_of r.kind ∷ (field_text (form_of r.kind 0) r.a ++ (field_text (form_of r.kind 1) r.b ++ (field_text (form_of r.kind 2) r.c ++ [])))
 parts_are r = simp (append_assoc, append-nil)
 
 -- neither tab nor newline stands in them
-text_free : (c form v : ℕ) (ps : List (List ℕ)) → c < 48 → all_free c (field_text form v ++ ps) ≡ all_free c ps
-text_free c form v ps h = cases (eqb form no_field) (λ e. rw e) (λ e. rw (e, value_free c form v h))
+text_free : (c : ℕ) (f : Option Form) (v : ℕ) (ps : List (List ℕ)) → c < 48 → all_free c (field_text f v ++ ps) ≡ all_free c ps
+text_free c None v ps h = refl
+text_free c (Some f) v ps h = rw (value_free c f v h)
 
 parts_free : (c : ℕ) (r : Row) → c < 48 → all_free c (row_parts r) ≡ true
 parts_free c r h = ap (all_free c) (parts_are r) ∙ rw (kind_free c r.kind h)
@@ -140,7 +123,7 @@ pub row_split : (r : Row) (rest : List ℕ) → split_on 10 (row_text r ++ rest)
 row_split r rest = rw append_assoc (split_cut 10 (row_line r) rest (row_free r))
 
 -- the line of a row that a line can say is read as that row
-pub row_reads : (r : Row) → row_ok r ≡ true → read_row (row_line r) ≡ Is r
+pub row_reads : (r : Row) → row_ok r ≡ true → read_row (row_line r) ≡ Some r
 unfolding read_row row_line
 row_reads r h =
     let b = row_bounds r h in
@@ -150,15 +133,15 @@ row_reads r h =
     (with_reads (form_of k 0) r.a _ _ b.first ∙ with_reads (form_of k 1) r.b _ _ b.second ∙ with_reads (form_of k 2) r.c [] _ b.third)
 
 -- a line that is read as a row is that row's line, and a line can say the row
-pub row_read : (s : List ℕ) (r : Row) → read_row s ≡ Is r → (row_line r ≡ s) × (row_ok r ≡ true)
+pub row_read : (s : List ℕ) (r : Row) → read_row s ≡ Some r → (row_line r ≡ s) × (row_ok r ≡ true)
 unfolding read_row row_line row_ok
 row_read s r h = line (split_on 9 s) refl h
   where
-    last : (ps : List (List ℕ)) (x : Row) → at_end ps (Is x) ≡ Is r → (ps ≡ []) × (x ≡ r)
+    last : (ps : List (List ℕ)) (x : Row) → at_end ps x ≡ Some r → (ps ≡ []) × (x ≡ r)
     last [] x e = (refl, cc)
-    last (p ∷ ps) x e = absurd (bad_is e)
+    last (p ∷ ps) x e = absurd (none-some _ e)
 
-    fields : (w : List ℕ) (ps : List (List ℕ)) (k : ℕ) → split_on 9 s ≡ w ∷ ps → kind_in w ≡ word.Is k → fields_in k ps ≡ Is r → (row_line r ≡ s) × (row_ok r ≡ true)
+    fields : (w : List ℕ) (ps : List (List ℕ)) (k : ℕ) → split_on 9 s ≡ w ∷ ps → kind_in w ≡ Some k → fields_in ps k ≡ Some r → (row_line r ≡ s) × (row_ok r ≡ true)
     fields w ps k q u h =
         let t = kind_read w k u in
         let a = with_read (form_of k 0) ps _ r h in
@@ -169,13 +152,13 @@ row_read s r h = line (split_on 9 s) refl h
         let p : row_parts x ≡ split_on 9 s = parts_are x ∙ cc (t.0, a.cut, b.cut, c.cut, e.0) in
         rw (← e.1) (ap (join_on 9) p ∙ join_split 9 s, rw (le-leb k end_kind t.1, a.ok, b.ok, c.ok))
 
-    line : (ps : List (List ℕ)) → split_on 9 s ≡ ps → row_in ps ≡ Is r → (row_line r ≡ s) × (row_ok r ≡ true)
-    line [] q h = absurd (bad_is h)
+    line : (ps : List (List ℕ)) → split_on 9 s ≡ ps → row_in ps ≡ Some r → (row_line r ≡ s) × (row_ok r ≡ true)
+    line [] q h = absurd (none-some _ h)
     line (w ∷ ps) q h = kind (kind_in w) refl h
       where
-        kind : (x : Word) → kind_in w ≡ x → on_word x ps ≡ Is r → (row_line r ≡ s) × (row_ok r ≡ true)
-        kind (word.Is k) u h = fields w ps k q u h
-        kind word.Unknown u h = absurd (bad_is h)
+        kind : (x : Option ℕ) → kind_in w ≡ x → option_and_then (fields_in ps) x ≡ Some r → (row_line r ≡ s) × (row_ok r ≡ true)
+        kind (Some k) u h = fields w ps k q u h
+        kind None u h = absurd (none-some _ h)
 
 -- a text with the tab before each part
 abbrev tabs : List (List ℕ) → List ℕ
@@ -186,9 +169,10 @@ join_tabs : (w : List ℕ) (ps : List (List ℕ)) → join_on 9 (w ∷ ps) ≡ w
 join_tabs w [] = sym (append-nil w)
 join_tabs w (p ∷ ps) = rw (join_tabs p ps)
 
-tabs_text : (form v : ℕ) (ps : List (List ℕ)) → tabs (field_text form v ++ ps) ≡ tabbed form v ++ tabs ps
+tabs_text : (f : Option Form) (v : ℕ) (ps : List (List ℕ)) → tabs (field_text f v ++ ps) ≡ tabbed f v ++ tabs ps
 unfolding tabbed
-tabs_text form v ps = cases (eqb form no_field) (λ e. rw e) (λ e. rw e)
+tabs_text None v ps = refl
+tabs_text (Some f) v ps = refl
 
 -- the line of a row: its word, and each field with its tab
 pub row_line_lem : (r : Row) → row_line r ≡ word_of r.kind ++ (tabbed (form_of r.kind 0) r.a ++ (tabbed (form_of r.kind 1) r.b ++ (tabbed (form_of r.kind 2) r.c ++ [])))

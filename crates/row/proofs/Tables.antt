@@ -1,18 +1,23 @@
 -- The page's table of rows: a test computed over all kinds holds of whichever is looked up, and the code lists the same kinds.
-use Prim.Native.Nat.{ℕ, zero, suc, ◌-◌, ◌≤◌, ◌<◌}
-use mathlib.Core.Path.{◌≡◌, refl, sym, ap}
+use Prim.Native.Nat.{ℕ, zero, suc, ◌≤◌, ◌<◌}
+use mathlib.Core.Path.{◌≡◌, refl, sym, ap, ◌∙◌}
 use mathlib.Core.List.{List, [], ◌∷◌}
 use mathlib.Core.Bool.{Bool, true, false}
 use native.Mathlib.Omega.{arith}
-use lib.ListN.{length, get_or, take, drop, replicate, length-append, get_or-append, get_or-eq_default}
-use lib.Seq.{take-append_seam}
-use lib.Dec.{leb, ltb}
+use native.Mathlib.Numerals.{add-one}
+use lib.ListN.{length, get_or}
+use lib.Dec.{leb, ltb, eqb}
 use borrow.Author.Tests.{le-leb, leb-true, ltb-true, ne_eqb}
 use Rattle.text.specs.Parts.{pick, split_on, free}
-use Rattle.text.specs.Words.{word_at}
-use Rattle.text.proofs.Picks.{picked, false_true}
-use Rattle.row.specs.Kinds.{RowKind, none, kinds, end_kind, most_fields, kind_at, laid_out, word_of, fields_of, most_of, form_of, words_in}
+use Rattle.text.specs.Words.{same_list, word_at, index_from}
+use Rattle.text.proofs.Picks.{cases, picked, false_true}
 use Rattle.row.specs.declared.Kind.{Kind}
+use denote.Ref.{Bor}
+use Rattle.std.specs.Prelude.{map, nat_eq, slice_get, Option, Some, None, MatchOption, HoldsAt, option_copied}
+use Rattle.std.proofs.lemmas.Option.{slice_get_past, slice_get-get_or}
+use Rattle.std.specs.List.{position_from}
+use Rattle.std.specs.Cmp.Lexicographic.{pointwise}
+use Rattle.row.specs.Kinds.{RowKind, none, kinds, said, kind_at, word_of, most_of, words_in}
 
 -- the test holds of every entry
 abbrev pub every : {A : Type 0} → (A → Bool) → List A → Bool
@@ -34,68 +39,10 @@ pub most_within : (k : ℕ) → most_of k < 4294967296
 unfolding most_of
 most_within k = ltb-true _ _ (of_kind (λ x. ltb x.most 4294967296) k refl refl)
 
--- no kind has more fields
-fields_within : (k : ℕ) → fields_of k ≤ most_fields
-unfolding fields_of
-fields_within k = leb-true _ _ (of_kind (λ x. leb (length x.fields) most_fields) k refl refl)
-
--- no word has more letters than 5
-pub word_width : (k : ℕ) → length (word_of k) ≤ 5
-unfolding word_of
-word_width k = leb-true _ _ (of_kind (λ x. leb (length x.word) 5) k refl refl)
-
--- nor a byte below 48
+-- no byte below 48 stands in a word
 pub word_high : (k : ℕ) → every (leb 48) (word_of k) ≡ true
 unfolding word_of
 word_high k = of_kind (λ x. every (leb 48) x.word) k refl refl
-
--- past the last kind there is none
-pub kind_past : (k : ℕ) → end_kind < k → laid_out none ≡ laid_out (kind_at k)
-kind_past k h = ap laid_out (sym (get_or-eq_default kinds none h))
-
--- and up to it the kinds as the code lists them
-abbrev listed : List RowKind → List Kind
-listed [] = []
-listed (x ∷ xs) = laid_out x ∷ listed xs
-
-pub kind_listed : (d : Kind) (k : ℕ) → k ≤ end_kind → get_or (listed kinds) k d ≡ laid_out (kind_at k)
-kind_listed d k h = at kinds k (omega arith)
-  where
-    at : (xs : List RowKind) (i : ℕ) → i < length xs → get_or (listed xs) i d ≡ laid_out (get_or xs i none)
-    at [] i l = absurd (omega arith)
-    at (x ∷ xs) zero l = refl
-    at (x ∷ xs) (suc i) l = at xs i (omega arith)
-
--- what an entry of the code says
-module _ (x : Kind) (k : ℕ) (e : x ≡ laid_out (kind_at k)) where
-  pub entry_most : x.3 ≡ most_of k
-  unfolding laid_out most_of
-  entry_most = rw e
-
-  pub entry_letters : x.1 ≡ length (word_of k)
-  unfolding laid_out word_of
-  entry_letters = rw e
-
-  pub entry_room : x.1 ≤ length x.0
-  unfolding laid_out
-  entry_room = rw (e, length-append (kind_at k).word (replicate (5 - length (kind_at k).word) 32)) (omega arith)
-
-  pub entry_word : take (x.1 - 0) (drop 0 x.0) ≡ word_of k
-  unfolding laid_out word_of
-  entry_word = let n : x.1 - 0 ≡ x.1 = omega arith in rw (n, e) (take-append_seam (kind_at k).word _)
-
-  pub entry_past : (j : ℕ) → x.2 ≤ j → 0 ≡ form_of k j
-  unfolding laid_out form_of
-  entry_past j h = sym (get_or-eq_default (kind_at k).fields 0 (rw e at h))
-
-  module _ (j : ℕ) (h : j < x.2) where
-    pub entry_field : j < most_fields
-    unfolding laid_out fields_of
-    entry_field = let l : j < fields_of k = rw e at h in omega (arith, fields_within k)
-
-    pub entry_form : get_or x.4 j 0 ≡ form_of k j
-    unfolding laid_out form_of
-    entry_form = let l : j < length (kind_at k).fields = rw e at h in rw e (get_or-append (kind_at k).fields _ 0 j l)
 
 -- the word of a kind among the words
 pub words_at : (xs : List RowKind) (k : ℕ) → get_or (words_in xs) k [] ≡ (get_or xs k none).word
@@ -121,3 +68,22 @@ word_free c words i l h = free_high c (word_at words i) l (entry (every (leb 48)
 pub word_within : (m : ℕ) (words : List ℕ) (i : ℕ) → every (λ w. leb (length w) m) (split_on 9 words) ≡ true → length (word_at words i) ≤ m
 unfolding word_at
 word_within m words i h = leb-true _ _ (entry (λ w. leb (length w) m) (split_on 9 words) [] i (le-leb 0 m (omega arith)) h)
+
+-- which of the code's entries has the word: the same place as among the words
+abbrev pub spells : List ℕ → Kind → Bool
+spells p x = pointwise nat_eq p x.word.now
+
+same_spelled : (a b : List ℕ) → pointwise nat_eq a b ≡ same_list a b
+same_spelled [] [] = refl
+same_spelled [] (y ∷ ys) = refl
+same_spelled (x ∷ xs) [] = refl
+same_spelled (x ∷ xs) (y ∷ ys) = rw (same_spelled xs ys) (cases (eqb x y) (λ e. rw e) (λ e. rw e))
+
+pub place_among : (p : List ℕ) (k : ℕ) (xs : List Kind) → position_from (spells p) k xs ≡ index_from k p (words_in (map said xs))
+place_among p k [] = refl
+place_among p k (x ∷ xs) = rw (same_spelled p x.word.now, add-one, place_among p (suc k) xs) (cases (same_list p x.word.now) (λ e. rw e) (λ e. rw e))
+
+-- what `get` gives of a list, behind its reference
+pub got_is : {A : Type 0} (r : Option (Bor A)) (xs : List A) (j : ℕ) → MatchOption r (length xs ≤ j) (λ x. (j < length xs) × HoldsAt (λ y. x.now ≡ y) xs j) → option_copied r ≡ slice_get xs j
+got_is None xs j h = sym (slice_get_past xs j h)
+got_is (Some x) xs j h = ap Some (h.1 x.now) ∙ sym (slice_get-get_or xs j x.now h.0)

@@ -1,5 +1,3 @@
-pub mod Answers
-pub mod Places
 pub mod Named
 pub mod Steps
 pub mod Facts

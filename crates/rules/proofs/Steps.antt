@@ -18,9 +18,7 @@ use Rattle.model.specs.declared.TaskStep.{TaskStep}
 use Rattle.model.specs.declared.TaskStep.TheVariants.{St, Fm}
 use Rattle.model.specs.declared.ActStep.{ActStep}
 use Rattle.model.specs.declared.ActStep.TheVariants.{Lm, Ia, Ea, Cx, Fa}
-use Rattle.rules.specs.Local.{told_task, told, unless, task_local, interrupted, local, naming, task_in, clear_for, empty_for}
-use Rattle.rules.specs.declared.TaskTold.{TaskTold}
-use Rattle.rules.specs.declared.Told.{Told}
+use Rattle.rules.specs.Local.{TaskTold, Told, told_task, told, unless, task_local, interrupted, local, naming, task_in, clear_for, empty_for}
 
 -- the refusal of an answer
 number : (b : Bool) (refused go : Told) → (unless b refused go).number ≡ need b refused.number go.number

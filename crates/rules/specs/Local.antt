@@ -1,8 +1,10 @@
 -- What a step asks and does, told by the records of the one task and the one activity that it names; first whether it names rows that
 -- exist.
-use Rattle.std.specs.Prelude.{Bool, true, false, not, ℕ, eqb, leb, ltb}
+use Rattle.std.specs.Prelude.{Bool, true, false, not, ℕ, Result, Ok, Err, eqb, leb, ltb}
 use Rattle.text.specs.Parts.{pick}
 use Rattle.model.specs.Tests.{◌and◌, ◌or◌, need}
+use Rattle.model.specs.Refusals.{number_of}
+use Rattle.model.specs.declared.refusal.Refusal.{Refusal}
 use Rattle.model.specs.Tables.{Table, is_ether, known}
 use Rattle.model.specs.States.{act_at, by_manager, held_by, stands, clear_at}
 use Rattle.model.specs.Rules.{entered, rested, held, signalled, again, stop_of, out_of_r, ea_allowed, begun, fa_allowed, none_in, closed}
@@ -16,16 +18,32 @@ use Rattle.model.specs.declared.TaskStep.{TaskStep}
 use Rattle.model.specs.declared.TaskStep.TheVariants.{St, Fm}
 use Rattle.model.specs.declared.ActStep.{ActStep}
 use Rattle.model.specs.declared.ActStep.TheVariants.{Lm, Ia, Ea, Cx, Fa}
-use Rattle.rules.specs.declared.TaskTold.{TaskTold}
-use Rattle.rules.specs.declared.Told.{Told}
 
 -- an answer to a step of a task: the refusal, 0 for none, with the task's record as it then is
+pub record TaskTold : Type 0 where
+  pub number : ℕ
+  pub task : Task
+
+-- an answer to a step of an activity, with its task's record and its own
+pub record Told : Type 0 where
+  pub number : ℕ
+  pub task : Task
+  pub act : Act
+
 abbrev pub told_task : ℕ → Task → TaskTold
 told_task n x = record { number = n; task = x }
 
--- an answer to a step of an activity, with its task's record and its own
 abbrev pub told : ℕ → Task → Act → Told
 told n x y = record { number = n; task = x; act = y }
+
+-- an answer as the code gives it: a refusal leaves the records as they came
+abbrev pub told_task_by : Result Task Refusal → Task → TaskTold
+told_task_by (Ok u) x = told_task 0 u
+told_task_by (Err r) x = told_task (number_of r) x
+
+abbrev pub told_by : Result (Task × Act) Refusal → Task → Act → Told
+told_by (Ok p) x y = told 0 p.0 p.1
+told_by (Err r) x y = told (number_of r) x y
 
 -- a refusal, unless the test holds
 abbrev pub unless : {A : Type 0} → Bool → A → A → A

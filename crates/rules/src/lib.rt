@@ -1,72 +1,38 @@
 // The steps on the records that they touch: a task's, or a task's and an activity's, go in by value and come back.
 #![tactic(auto)]
 
-ghost use Rattle.std.specs.Prelude.{◌≡◌, ◌<◌, ◌≤◌, T, ltb};
-ghost use Rattle.model.specs.Tests.{◌and◌, need};
+ghost use Rattle.std.specs.Prelude.{◌≡◌, ◌<◌, ◌≤◌, T};
 ghost use Rattle.model.specs.Limits.{ceiling};
+ghost use Rattle.model.specs.Refusals.{numbered};
 ghost use Rattle.model.specs.Tables.{known};
 ghost use Rattle.model.specs.States.{stands};
 ghost use Rattle.model.specs.Rules.{entered, again, ea_allowed, fa_allowed};
 ghost use Rattle.model.specs.declared.Place.TheVariants.{Codel};
-ghost use Rattle.prepared.specs.Prepared.{table_in, Prepared};
-ghost use Rattle.rules.specs.Local.{told_task, told, st_local, fm_local, task_told, lm_local, ia_local, ea_local, cx_local, fa_local, local, naming, row_in, task_in};
+ghost use Rattle.prepared.specs.Held.{held};
+ghost use Rattle.rules.specs.Local.{told_task_by, told_by, st_local, fm_local, task_local, task_told, lm_local, ia_local, ea_local, cx_local, fa_local, local, naming, row_in, task_in};
 
-use model::{Act, ActStep, Holder, Place, Task, TaskStep};
-
-// What a step of a task comes to: its refusal, 0 for none, and the task's record as it then is.
-#[derive(Clone, Copy)]
-pub struct TaskTold {
-    pub number: u64,
-    pub task: Task,
-}
-
-// What a step of an activity comes to: its refusal, 0 for none, and its task's record and its own as they then are.
-#[derive(Clone, Copy)]
-pub struct Told {
-    pub number: u64,
-    pub task: Task,
-    pub act: Act,
-}
+use model::{Act, ActStep, Holder, Place, Refusal, Task, TaskStep};
+use prepared::Component;
 
 // "Enter c".
-fn enter(rows: &[u32], index: &[u32], c: usize, y: Act) -> Act
-    requires { Prepared rows.now index.now × (c < (table_in rows.now index.now).ncodels) }
-    ensures { result ≡ entered (table_in rows.now index.now) c y }
+fn enter(component: &Component, c: usize, act: Act) -> Act
+    requires { c < (held component.now).ncodels }
+    ensures { result ≡ entered (held component.now) c act }
 {
-    records::entered(y, c, prepared::is_safe(rows, index, c))
+    records::entered(act, c, component.is_safe(c))
 }
 
 // An activity that comes to hold enters its codel again, unless it is in R.
-fn enter_again(rows: &[u32], index: &[u32], y: Act) -> Act
-    requires { Prepared rows.now index.now × T (known (table_in rows.now index.now) y.place) }
-    ensures { result ≡ again (table_in rows.now index.now) y.halt y.place y }
+fn enter_again(component: &Component, act: Act) -> Act
+    requires { T (known (held component.now) act.place) }
+    ensures { result ≡ again (held component.now) act.halt act.place act }
 {
-    if y.halt {
-        return y;
+    if act.halt {
+        return act;
     }
-    let p = y.place;
-    match p {
-        Place::Ether => y,
-        Place::Codel(c) => enter(rows, index, c, y),
-    }
-}
-
-fn task_answer(n: u64, x: Task) -> TaskTold
-    ensures { result ≡ told_task n x }
-{
-    let u = records::task_anew(x);
-    TaskTold { number: n, task: u }
-}
-
-fn answer(n: u64, x: Task, y: Act) -> Told
-    ensures { result ≡ told n x y }
-{
-    let u = records::task_anew(x);
-    let v = records::act_anew(y);
-    Told {
-        number: n,
-        task: u,
-        act: v,
+    match act.place {
+        Place::Ether => act,
+        Place::Codel(c) => enter(component, c, act),
     }
 }
 
@@ -74,293 +40,251 @@ fn answer(n: u64, x: Task, y: Act) -> Told
 pub fn row_in(i: usize, n: usize) -> usize
     ensures { result ≡ row_in i n }
 {
-    if i < n {
-        return i;
-    }
-    0
+    if i < n { i } else { 0 }
 }
 
-fn do_st(rows: &[u32], index: &[u32], t: usize, x: Task) -> TaskTold
-    requires { Prepared rows.now index.now × (t < (table_in rows.now index.now).ntasks) × (x.missed ≤ ceiling) }
-    ensures { result ≡ st_local (table_in rows.now index.now) t x }
+fn do_st(component: &Component, t: usize, task: Task) -> Result<Task, Refusal>
+    requires { (t < (held component.now).ntasks) × (task.missed ≤ ceiling) }
+    ensures { told_task_by result task ≡ st_local (held component.now) t task }
 {
-    if x.timer != prepared::period_of(rows, index, t) {
-        return task_answer(14, x);
+    if task.timer != component.period_of(t) {
+        return Err(Refusal::TooEarly);
     }
-    let u = records::signalled_task(x);
-    task_answer(0, u)
+    Ok(records::signalled_task(task))
 }
 
-fn do_fm(empty: bool, x: Task) -> TaskTold
-    ensures { result ≡ fm_local empty x }
+fn do_fm(empty: bool, task: Task) -> Result<Task, Refusal>
+    ensures { told_task_by result task ≡ fm_local empty task }
 {
-    if !x.managing {
-        return task_answer(13, x);
+    if !(task.managing && records::is_manager(task.holder) && empty) {
+        return Err(Refusal::NotAllowed);
     }
-    let h = x.holder;
-    if !records::is_manager(h) {
-        return task_answer(13, x);
-    }
-    if !empty {
-        return task_answer(13, x);
-    }
-    let u = records::finished(x);
-    task_answer(0, u)
+    Ok(records::finished(task))
 }
 
-// `st` and `fm` on their task's record: 12 where there is no such task; empty is whether N and R are, for `fm`.
+// `st` and `fm` on their task's record, or why not: where there is no such task it is unknown; empty is whether N and R are, for `fm`.
+#[tactic(auto, unfolding(crate::specs::Local::task_local))]
 pub fn task_step(
-    rows: &[u32],
-    index: &[u32],
+    component: &Component,
     t: usize,
-    k: TaskStep,
+    step: TaskStep,
     empty: bool,
-    x: Task,
-) -> TaskTold
-    requires { Prepared rows.now index.now × (x.missed ≤ ceiling) }
-    ensures { result ≡ task_told (table_in rows.now index.now) t k empty x }
+    task: Task,
+) -> Result<Task, Refusal>
+    requires { task.missed ≤ ceiling }
+    ensures { told_task_by result task ≡ task_told (held component.now) t step empty task }
 {
-    if prepared::tasks(rows, index) <= t {
-        return task_answer(12, x);
+    if component.tasks() <= t {
+        return Err(Refusal::Unknown);
     }
-    match k {
-        TaskStep::St => do_st(rows, index, t, x),
-        TaskStep::Fm => do_fm(empty, x),
-    }
+    let task = match step {
+        TaskStep::St => do_st(component, t, task),
+        TaskStep::Fm => do_fm(empty, task),
+    }?;
+    // made anew, as `task_anew` says
+    Ok(records::task_anew(task))
 }
 
-fn do_lm(rows: &[u32], index: &[u32], t: usize, a: usize, x: Task, y: Act) -> Told
-    requires { Prepared rows.now index.now × (a < (table_in rows.now index.now).nacts) × T (known (table_in rows.now index.now) y.place) }
-    ensures { result ≡ lm_local (table_in rows.now index.now) t a x y }
+fn do_lm(
+    component: &Component,
+    t: usize,
+    a: usize,
+    task: Task,
+    act: Act,
+) -> Result<(Task, Act), Refusal>
+    requires { (a < (held component.now).nacts) × T (known (held component.now) act.place) }
+    ensures { told_by result task act ≡ lm_local (held component.now) t a task act }
 {
-    if !x.managing {
-        return answer(13, x, y);
+    if !(task.managing
+        && records::is_manager(task.holder)
+        && component.task_of(a) == t
+        && (act.run || act.halt))
+    {
+        return Err(Refusal::NotAllowed);
     }
-    let h = x.holder;
-    if !records::is_manager(h) {
-        return answer(13, x, y);
-    }
-    if prepared::task_of(rows, index, a) != t {
-        return answer(13, x, y);
-    }
-    if !records::either(y.run, y.halt) {
-        return answer(13, x, y);
-    }
-    let u = records::with_holder(x, Holder::Activity(a), 0);
-    let v = enter_again(rows, index, y);
-    answer(0, u, v)
+    Ok((
+        records::with_holder(task, Holder::Activity(a), 0),
+        enter_again(component, act),
+    ))
 }
 
-fn do_ia(rows: &[u32], index: &[u32], a: usize, x: Task, y: Act) -> Told
-    requires { Prepared rows.now index.now × (a < (table_in rows.now index.now).nacts) }
-    ensures { result ≡ ia_local (table_in rows.now index.now) a x y }
+#[tactic(auto, using(crate::proofs::Named::rows))]
+fn do_ia(component: &Component, a: usize, task: Task, act: Act) -> Result<(Task, Act), Refusal>
+    requires { a < (held component.now).nacts }
+    ensures { told_by result task act ≡ ia_local (held component.now) a task act }
 {
-    let h = x.holder;
-    if !records::is_held(h, a) {
-        return answer(13, x, y);
+    if !(records::is_held(task.holder, a) && act.halt) {
+        return Err(Refusal::NotAllowed);
     }
-    if !y.halt {
-        return answer(13, x, y);
-    }
-    let stop = prepared::stop_of(rows, index, a);
-    match stop {
-        Place::Ether => {
-            let u = records::with_holder(x, Holder::Manager, 0);
-            let v = records::at_rest(Place::Ether);
-            answer(0, u, v)
-        }
-        Place::Codel(c) => {
-            let v = enter(rows, index, c, records::out_of_r(y));
-            answer(0, x, v)
-        }
+    match component.stop_of(a) {
+        Place::Ether => Ok((
+            records::with_holder(task, Holder::Manager, 0),
+            records::at_rest(Place::Ether),
+        )),
+        Place::Codel(c) => Ok((task, enter(component, c, records::out_of_r(act)))),
     }
 }
 
 // "at ether and c its start; or executing, with a `run` edge to codel c"
-fn may_enter(rows: &[u32], index: &[u32], a: usize, c: usize, y: Act) -> bool
-    requires { Prepared rows.now index.now × (a < (table_in rows.now index.now).nacts) × (c < (table_in rows.now index.now).ncodels) × T (known (table_in rows.now index.now) y.place) }
-    ensures { result ≡ ea_allowed (table_in rows.now index.now) y a c y.place }
+fn may_enter(component: &Component, a: usize, c: usize, act: Act) -> bool
+    requires { (a < (held component.now).nacts) × (c < (held component.now).ncodels) × T (known (held component.now) act.place) }
+    ensures { result ≡ ea_allowed (held component.now) act a c act.place }
 {
-    let p = y.place;
-    match p {
-        Place::Ether => prepared::is_start(rows, index, a, c),
-        Place::Codel(d) => {
-            if y.executing {
-                return prepared::has_edge(rows, index, d, Place::Codel(c), false);
-            }
-            false
-        }
+    match act.place {
+        Place::Ether => component.is_start(a, c),
+        Place::Codel(d) => act.executing && component.has_edge(d, Place::Codel(c), false),
     }
 }
 
-fn do_ea(rows: &[u32], index: &[u32], a: usize, c: usize, x: Task, y: Act) -> Told
-    requires { Prepared rows.now index.now × (a < (table_in rows.now index.now).nacts) × (c < (table_in rows.now index.now).ncodels) × T (known (table_in rows.now index.now) y.place) }
-    ensures { result ≡ ea_local (table_in rows.now index.now) a (Codel c) x y }
+fn do_ea(
+    component: &Component,
+    a: usize,
+    c: usize,
+    task: Task,
+    act: Act,
+) -> Result<(Task, Act), Refusal>
+    requires { (a < (held component.now).nacts) × (c < (held component.now).ncodels) × T (known (held component.now) act.place) }
+    ensures { told_by result task act ≡ ea_local (held component.now) a (Codel c) task act }
 {
-    let h = x.holder;
-    if !records::may_run(h, a, y.halt) {
-        return answer(13, x, y);
+    if !(records::may_run(task.holder, a, act.halt) && may_enter(component, a, c, act)) {
+        return Err(Refusal::NotAllowed);
     }
-    if !may_enter(rows, index, a, c, y) {
-        return answer(13, x, y);
+    if !records::may_end(act) {
+        return Err(Refusal::TooEarly);
     }
-    if !records::may_end(y) {
-        return answer(14, x, y);
-    }
-    let u = records::with_holder(x, h, y.clock);
-    let v = enter(rows, index, c, y);
-    answer(0, u, v)
+    Ok((
+        records::with_holder(task, task.holder, act.clock),
+        enter(component, c, act),
+    ))
 }
 
 // Does an activity stand before its codel, as far as its own record tells?
-fn is_standing(rows: &[u32], index: &[u32], y: Act) -> bool
-    requires { Prepared rows.now index.now × T (known (table_in rows.now index.now) y.place) }
-    ensures { result ≡ stands (table_in rows.now index.now) y y.place }
+fn is_standing(component: &Component, act: Act) -> bool
+    requires { T (known (held component.now) act.place) }
+    ensures { result ≡ stands (held component.now) act act.place }
 {
-    let p = y.place;
-    match p {
+    match act.place {
         Place::Ether => false,
-        Place::Codel(c) => {
-            if prepared::is_safe(rows, index, c) {
-                return false;
-            }
-            !y.executing
-        }
+        Place::Codel(c) => !component.is_safe(c) && !act.executing,
     }
 }
 
-fn do_cx(rows: &[u32], index: &[u32], a: usize, clear: bool, x: Task, y: Act) -> Told
-    requires { Prepared rows.now index.now × T (known (table_in rows.now index.now) y.place) }
-    ensures { result ≡ cx_local (table_in rows.now index.now) a clear x y }
+fn do_cx(
+    component: &Component,
+    a: usize,
+    clear: bool,
+    task: Task,
+    act: Act,
+) -> Result<(Task, Act), Refusal>
+    requires { T (known (held component.now) act.place) }
+    ensures { told_by result task act ≡ cx_local (held component.now) a clear task act }
 {
-    let h = x.holder;
-    if !records::may_run(h, a, y.halt) {
-        return answer(13, x, y);
+    if !(records::may_run(task.holder, a, act.halt) && is_standing(component, act)) {
+        return Err(Refusal::NotAllowed);
     }
-    if !is_standing(rows, index, y) {
-        return answer(13, x, y);
-    }
-    let v = records::started(y);
     if !clear {
-        return answer(15, x, y);
+        return Err(Refusal::InConflict);
     }
-    answer(0, x, v)
+    Ok((task, records::started(act)))
 }
 
 // "with a `pause` edge to the target or a `run` edge to ether"
-fn may_leave(rows: &[u32], index: &[u32], from: Place, p: Place) -> bool
-    requires { Prepared rows.now index.now × T (known (table_in rows.now index.now) from) × T (known (table_in rows.now index.now) p) }
-    ensures { result ≡ fa_allowed (table_in rows.now index.now) from p }
+fn may_leave(component: &Component, from: Place, to: Place) -> bool
+    requires { T (known (held component.now) from) × T (known (held component.now) to) }
+    ensures { result ≡ fa_allowed (held component.now) from to }
 {
     match from {
         Place::Ether => false,
         Place::Codel(d) => {
-            if prepared::has_edge(rows, index, d, p, true) {
-                return true;
-            }
-            match p {
-                Place::Ether => prepared::has_edge(rows, index, d, Place::Ether, false),
-                Place::Codel(_) => false,
-            }
+            component.has_edge(d, to, true)
+                || records::is_ether(to) && component.has_edge(d, Place::Ether, false)
         }
     }
 }
 
-fn do_fa(rows: &[u32], index: &[u32], a: usize, p: Place, x: Task, y: Act) -> Told
-    requires { Prepared rows.now index.now × T (known (table_in rows.now index.now) y.place) × T (known (table_in rows.now index.now) p) }
-    ensures { result ≡ fa_local (table_in rows.now index.now) a p x y }
-{
-    let h = x.holder;
-    if !records::is_held(h, a) {
-        return answer(13, x, y);
-    }
-    if !y.executing {
-        return answer(13, x, y);
-    }
-    let q = y.place;
-    if !may_leave(rows, index, q, p) {
-        return answer(13, x, y);
-    }
-    if y.clock < 1 {
-        return answer(14, x, y);
-    }
-    let u = records::with_holder(x, Holder::Manager, y.clock);
-    let v = records::at_rest(p);
-    answer(0, u, v)
-}
-
-// `lm`, `ia`, `ea`, `cx` and `fa` on the activity's record and its task's; clear is whether no conflicting codel executes, for `cx`.
-pub fn local_step(
-    rows: &[u32],
-    index: &[u32],
+fn do_fa(
+    component: &Component,
     a: usize,
-    k: ActStep,
+    place: Place,
+    task: Task,
+    act: Act,
+) -> Result<(Task, Act), Refusal>
+    requires { T (known (held component.now) act.place) × T (known (held component.now) place) }
+    ensures { told_by result task act ≡ fa_local (held component.now) a place task act }
+{
+    if !(records::is_held(task.holder, a)
+        && act.executing
+        && may_leave(component, act.place, place))
+    {
+        return Err(Refusal::NotAllowed);
+    }
+    if act.clock < 1 {
+        return Err(Refusal::TooEarly);
+    }
+    Ok((
+        records::with_holder(task, Holder::Manager, act.clock),
+        records::at_rest(place),
+    ))
+}
+
+// `lm`, `ia`, `ea`, `cx` and `fa` on the activity's record and its task's, or why not; clear is whether no conflicting codel executes, for `cx`.
+// A step is taken apart by nested match, here and in `check_names`: the page names this form.
+#[tactic(auto, using(crate::proofs::Named::rows), unfolding(crate::specs::Local::local))]
+pub fn local_step(
+    component: &Component,
+    a: usize,
+    step: ActStep,
     clear: bool,
-    x: Task,
-    y: Act,
-) -> Told
-    requires { Prepared rows.now index.now × (naming (table_in rows.now index.now) a k ≡ 0) × T (known (table_in rows.now index.now) y.place) }
-    ensures { result ≡ local (table_in rows.now index.now) a k clear x y }
+    task: Task,
+    act: Act,
+) -> Result<(Task, Act), Refusal>
+    requires { (naming (held component.now) a step ≡ 0) × T (known (held component.now) act.place) }
+    ensures { told_by result task act ≡ local (held component.now) a step clear task act }
 {
-    match k {
-        ActStep::Lm(t) => do_lm(rows, index, t, a, x, y),
-        ActStep::Ia => do_ia(rows, index, a, x, y),
-        ActStep::Ea(p) => match p {
-            Place::Ether => answer(11, x, y),
-            Place::Codel(c) => do_ea(rows, index, a, c, x, y),
+    let (task, act) = match step {
+        ActStep::Lm(t) => do_lm(component, t, a, task, act),
+        ActStep::Ia => do_ia(component, a, task, act),
+        ActStep::Ea(place) => match place {
+            Place::Ether => Err(Refusal::NoStep),
+            Place::Codel(c) => do_ea(component, a, c, task, act),
         },
-        ActStep::Cx => do_cx(rows, index, a, clear, x, y),
-        ActStep::Fa(p) => do_fa(rows, index, a, p, x, y),
-    }
+        ActStep::Cx => do_cx(component, a, clear, task, act),
+        ActStep::Fa(place) => do_fa(component, a, place, task, act),
+    }?;
+    // made anew, as `task_anew` says
+    Ok((records::task_anew(task), records::act_anew(act)))
 }
 
-fn both_below(a: usize, m: usize, c: usize, n: usize) -> bool
-    ensures { result ≡ (ltb a m and ltb c n) }
+// What is tested first of an activity's step: `ea` to ether is no step, and where a row that a step names does not exist it is unknown.
+#[tactic(auto, unfolding(crate::specs::Local::naming))]
+pub fn check_names(component: &Component, a: usize, step: ActStep) -> Result<(), Refusal>
+    ensures { numbered result ≡ naming (held component.now) a step }
 {
-    if a < m {
-        return c < n;
-    }
-    false
-}
-
-// 12 unless the rows exist.
-fn unless_there(there: bool) -> u64
-    ensures { result ≡ need there 12 0 }
-{
-    if there {
-        return 0;
-    }
-    12
-}
-
-// What is tested first of an activity's step: 11 where it is none, 12 where a row that it names does not exist, else 0.
-pub fn check_names(rows: &[u32], index: &[u32], a: usize, k: ActStep) -> u64
-    requires { Prepared rows.now index.now }
-    ensures { result ≡ naming (table_in rows.now index.now) a k }
-{
-    let na = prepared::acts(rows, index);
-    match k {
-        ActStep::Lm(t) => unless_there(both_below(t, prepared::tasks(rows, index), a, na)),
-        ActStep::Ia => unless_there(a < na),
-        ActStep::Ea(p) => match p {
-            Place::Ether => 11,
-            Place::Codel(c) => unless_there(both_below(a, na, c, prepared::codels(rows, index))),
+    let known = a < component.acts();
+    let there = match step {
+        ActStep::Lm(t) => known && t < component.tasks(),
+        ActStep::Ia => known,
+        ActStep::Ea(place) => match place {
+            Place::Ether => return Err(Refusal::NoStep),
+            Place::Codel(c) => known && c < component.codels(),
         },
-        ActStep::Cx => unless_there(a < na),
-        ActStep::Fa(p) => match p {
-            Place::Ether => unless_there(a < na),
-            Place::Codel(c) => unless_there(both_below(a, na, c, prepared::codels(rows, index))),
+        ActStep::Cx => known,
+        ActStep::Fa(place) => match place {
+            Place::Ether => known,
+            Place::Codel(c) => known && c < component.codels(),
         },
-    }
+    };
+    if there { Ok(()) } else { Err(Refusal::Unknown) }
 }
 
 // The task whose record an activity's step touches: `lm` names it, else it is the activity's.
-pub fn task_in(rows: &[u32], index: &[u32], a: usize, k: ActStep) -> usize
-    requires { Prepared rows.now index.now × (naming (table_in rows.now index.now) a k ≡ 0) }
-    ensures { result ≡ task_in (table_in rows.now index.now) a k }
+#[tactic(auto, using(crate::proofs::Named::rows))]
+pub fn task_in(component: &Component, a: usize, step: ActStep) -> usize
+    requires { naming (held component.now) a step ≡ 0 }
+    ensures { result ≡ task_in (held component.now) a step }
 {
-    let ActStep::Lm(t) = k else {
-        return prepared::task_of(rows, index, a);
-    };
-    t
+    match step {
+        ActStep::Lm(t) => t,
+        _ => component.task_of(a),
+    }
 }

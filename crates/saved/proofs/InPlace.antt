@@ -150,6 +150,8 @@ module _ (log : List ℕ) (at : ℕ) {r : Stood} where
   pub list_inside : (K : Table) (t : ℕ) → r ≡ read_list K log t at → at ≤ length log → r.end ≤ length log
   list_inside K t e l = rw e (list_is K log t at l).0.inside
 
+pub ruleset inside = (number_inside, yes_inside, word_inside, list_inside)
+
 -- a task's part, as it is read
 module _ (K : Table) (log : List ℕ) (t at : ℕ) where
   pub task_found : (timer signal managing holder run halt cycle opened missed longest : Stood) → timer ≡ number_at log at → signal ≡ yes_at log timer.end → managing ≡ yes_at log signal.end

@@ -1,6 +1,5 @@
 pub mod Beginning
 pub mod Filling
-pub mod Within
 pub mod Bits
 pub mod Marks
 pub mod Listed

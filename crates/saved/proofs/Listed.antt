@@ -19,7 +19,7 @@ use Rattle.model.specs.declared.State.{State}
 use Rattle.model.proofs.Soundness.{Sound, fine_in}
 use Rattle.prepared.specs.Prepared.{table_in, begin_of, end_of, acts_at, Prepared}
 use Rattle.prepared.proofs.Stored.{most_acts_lem}
-use Rattle.managing.specs.Listed.{listed_in}
+use Rattle.managing.specs.Listed.{listed_of, listed_in}
 use Rattle.managing.proofs.Listed.{listed_at_lem}
 use Rattle.saved.specs.Rows.{bit_of, run_bits, halt_bits}
 use Rattle.saved.specs.Listed.{run_by, halt_by, ListsOf}
@@ -82,14 +82,14 @@ module _ {rows index : List ℕ} (P : Prepared rows index) (t : ℕ) (h : t < (t
   unfolding run_by halt_by
   lists_found l end a x y n k m e f = record { run = e ∙ walk_all (in_run l) end a n k m; halt = f ∙ walk_all (in_halt l) end a n k m }
 
--- what stands beside a state says its N and R
-pub lists_are : (K : Table) (s : State) (t n : ℕ) → (run_by K (listed_in s) t n ≡ run_bits K s t n) × (halt_by K (listed_in s) t n ≡ halt_bits K s t n)
+-- what stands beside the first n activities of a state says their N and R
+pub lists_like : (K : Table) (s : State) (l : List ℕ) (t n : ℕ) → ((a : ℕ) → a < n → get_or l a 0 ≡ listed_of (act_at s a)) → (run_by K l t n ≡ run_bits K s t n) × (halt_by K l t n ≡ halt_bits K s t n)
 unfolding run_by halt_by run_bits halt_bits
-lists_are K s t n =
-    (alike (in_run (listed_in s)) (λ a. (act_at s a).run) (λ a. rw (listed_at_lem s a) (low (act_at s a).run (act_at s a).halt)), alike (in_halt (listed_in s)) (λ a. (act_at s a).halt) (λ a. rw (listed_at_lem s a) (high (act_at s a).run (act_at s a).halt)))
+lists_like K s l t n same =
+    (alike (in_run l) (λ a. (act_at s a).run) (λ a h. rw (same a h) (low (act_at s a).run (act_at s a).halt)), alike (in_halt l) (λ a. (act_at s a).halt) (λ a h. rw (same a h) (high (act_at s a).run (act_at s a).halt)))
   where
-    alike : (p q : ℕ → Bool) → ((a : ℕ) → p a ≡ q a) → bits_of K p t n ≡ bits_of K q t n
-    alike p q e = bits_alike _ _ n (λ a h. ap (λ b. eqb (K.task a) t and b) (e a))
+    alike : (p q : ℕ → Bool) → ((a : ℕ) → a < n → p a ≡ q a) → bits_of K p t n ≡ bits_of K q t n
+    alike p q e = bits_alike _ _ n (λ a h. ap (λ b. eqb (K.task a) t and b) (e a h))
 
     low : (x y : Bool) → eqb ((one x + 2 * one y) % 2) 1 ≡ x
     low true true = refl
@@ -102,6 +102,9 @@ lists_are K s t n =
     high true false = refl
     high false true = refl
     high false false = refl
+
+pub lists_are : (K : Table) (s : State) (t n : ℕ) → (run_by K (listed_in s) t n ≡ run_bits K s t n) × (halt_by K (listed_in s) t n ≡ halt_bits K s t n)
+lists_are K s t n = lists_like K s (listed_in s) t n (λ a h. listed_at_lem s a)
 
 -- "a waiting manager .. has N and R empty"
 pub lists_empty : (K : Table) (s : State) → Sound K s → (t : ℕ) → (task_at s t).managing ≡ false → (run_bits K s t K.nacts ≡ 0) × (halt_bits K s t K.nacts ≡ 0)

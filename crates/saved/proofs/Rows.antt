@@ -9,7 +9,6 @@ use lib.ListN.{length, length-set}
 use borrow.Author.Tests.{lt-leb}
 use Rattle.text.specs.Parts.{pick, split_on, join_on, free, parts_from}
 use Rattle.text.specs.Words.{same_list, index_from, word_in}
-use Rattle.text.specs.declared.Word.TheVariants as word
 use Rattle.text.proofs.Picks.{cases}
 use Rattle.text.proofs.Digits.{free_append}
 use Rattle.text.proofs.Parts.{join_split}
@@ -22,7 +21,7 @@ use Rattle.model.specs.Sound.{sound}
 use Rattle.model.specs.declared.Task.{Task}
 use Rattle.model.specs.declared.Act.{Act}
 use Rattle.model.specs.declared.State.{State}
-use Rattle.model.specs.declared.Line.TheVariants as line
+use Rattle.std.specs.Prelude.{None}
 use Rattle.model.proofs.Tests.{true_T}
 use Rattle.model.proofs.Formed.{formed}
 use Rattle.logs.specs.Lines.{longest_line, longest_row, step_words, on_word, step_in, read_step}
@@ -109,15 +108,15 @@ unfolding row_line state_word
 row_free K s = free_append 10 state_word (fields_text (row_forms K) (row_values K s)) refl (fields_free 10 (row_forms K) (row_values K s) (omega arith) refl)
 
 -- `state` is no word of a step
-no_word : word_in step_words state_word ≡ word.Unknown
+no_word : word_in step_words state_word ≡ None
 unfolding word_in state_word
 no_word = ap (index_from 0 state_word) nine_words
 
 -- a line that begins `state` and a tab is never a step
-pub begins_no_step : (d : ℕ) (p : List ℕ) → begins_row p ≡ true → read_step d p ≡ line.Bad
+pub begins_no_step : (d : ℕ) (p : List ℕ) → begins_row p ≡ true → read_step d p ≡ None
 unfolding read_step
 begins_no_step d p h =
-    let in-line : step_in d (split_on 9 p) ≡ line.Bad = ap (step_in d) (begins_split p h) ∙ ap (λ w. on_word d w (parts_from 9 p 6)) no_word in
+    let in-line : step_in d (split_on 9 p) ≡ None = ap (step_in d) (begins_split p h) ∙ ap (λ w. on_word d w (parts_from 9 p 6)) no_word in
     cases (ltb longest_line (length p + 1)) (λ l. rw l) (λ l. rw l in-line)
 
 -- setting rows keeps how many there are: of tasks

@@ -26,6 +26,7 @@ use Rattle.model.specs.declared.Place.{Place}
 use Rattle.model.specs.declared.Place.TheVariants.{Ether, Codel}
 use Rattle.model.specs.declared.Holder.{Holder}
 use Rattle.model.specs.declared.Holder.TheVariants.{Manager, Activity}
+use Rattle.table.proofs.Tests.{each_same}
 use Rattle.model.proofs.Tests.{T_true, true_T, and_both, last_or}
 use Rattle.model.proofs.Formed.{Formed, formed}
 use Rattle.model.proofs.Soundness.{Sound, sound_of, manager_is}
@@ -155,7 +156,7 @@ module _ (K : Table) (us vs : List ℕ) (same : (i : ℕ) → get_or us i 0 ≡ 
 
   within_same : sets_within K us ≡ sets_within K vs
   unfolding sets_within
-  within_same = simp same
+  within_same = each_same _ _ K.ntasks (λ t h. simp same)
 
 -- values with zeros behind them have the same values at each place
 padded_at : (n : ℕ) (vs : List ℕ) → length vs ≤ n → (i : ℕ) → get_or (sets (replicate n 0) 0 vs) i 0 ≡ get_or vs i 0

@@ -1,16 +1,16 @@
 -- A row that is looked for at a place: its parts one after another, each with its fields one after another.
 use Prim.Native.Nat.{ℕ, suc, ◌+◌, ◌≤◌}
 use mathlib.Core.Path.{◌≡◌, refl, sym, ap, ◌∙◌}
-use mathlib.Core.Bool.{Bool, true, false, not}
+use mathlib.Core.Bool.{Bool, true, not}
 use mathlib.Core.List.{List, [], ◌∷◌, ◌++◌, append-nil, append_assoc}
 use native.Mathlib.Omega.{arith}
 use native.Mathlib.Numerals.{add-one}
-use lib.Dec.{T, ltb, eqb, ltb→lt}
-use borrow.Author.Tests.{ne_eqb, eqb-true, not-true, not-false}
+use lib.Dec.{T, ltb, ltb→lt, eqb→eq}
+use borrow.Author.Tests.{ne_eqb, not-true}
 use Rattle.text.specs.Number.{width_of, digits}
 use Rattle.text.specs.Fields.{ether_word}
 use Rattle.text.specs.Standing.{past}
-use Rattle.text.proofs.Picks.{picked, passed, false_true}
+use Rattle.text.proofs.Picks.{false_true}
 use Rattle.text.proofs.Standing.{past_append}
 use Rattle.model.specs.Tests.{one}
 use Rattle.model.specs.Tables.{Table, is_ether}
@@ -22,6 +22,7 @@ use Rattle.model.specs.declared.Place.{Place}
 use Rattle.model.specs.declared.Place.TheVariants.{Ether, Codel}
 use Rattle.model.specs.declared.Holder.{Holder}
 use Rattle.model.specs.declared.Holder.TheVariants.{Manager, Activity}
+use Rattle.model.proofs.Tests.{and_both, true_T, T_true}
 use Rattle.model.proofs.Soundness.{Sound}
 use Rattle.managing.specs.Listed.{listed_in}
 use Rattle.fields.specs.Forms.{a_number, a_yes, a_holder, a_set, a_place, no_number, manager_word, word_text, form_text}
@@ -73,30 +74,13 @@ ether_is : (p : Place) → is_ether p ≡ true → p ≡ Ether
 ether_is Ether e = refl
 ether_is (Codel c) e = absurd (false_true e)
 
--- whether an activity rests at ether
-module _ (y : Act) (b : Bool) (e : b ≡ is_ether y.place) where
-  -- it is elsewhere
-  pub idle_away : not b ≡ true → false ≡ is_idle y
-  unfolding is_idle
-  idle_away h = rw (← e, not-true b h)
-
-  -- it is there and executes
-  pub idle_busy : not b ≡ false → y.executing ≡ true → false ≡ is_idle y
-  unfolding is_idle
-  idle_busy h x = rw (← e, not-false b h, x)
-
-  -- it is there and does not
-  pub idle_clock : not b ≡ false → y.executing ≡ false → eqb y.clock 0 ≡ is_idle y
-  unfolding is_idle
-  idle_clock h x = rw (← e, not-false b h, x)
-
 -- what one that rests there says
 idle_text : (y : Act) → is_idle y ≡ true → fields_text act_forms (act_values y) ≡ 9 ∷ 101 ∷ 116 ∷ 104 ∷ 101 ∷ 114 ∷ 9 ∷ 48 ∷ 9 ∷ 48 ∷ []
-unfolding is_idle fields_text form_text word_text ether_word digits width_of
+unfolding fields_text form_text word_text ether_word digits width_of
 idle_text y h =
-    let p = picked (is_ether y.place) false_true h in
-    let x = passed y.executing false_true p.1 in
-    rw (ether_is y.place p.0, x.0, eqb-true y.clock 0 x.1)
+    let p = and_both (is_ether y.place) _ (true_T _ h) in
+    let x = and_both (not y.executing) _ p.1 in
+    rw (ether_is y.place (T_true _ p.0), not-true y.executing (T_true _ x.0), eqb→eq y.clock 0 x.1)
 
 -- an activity's part
 module _ (log : List ℕ) (at : ℕ) where

@@ -14,7 +14,7 @@ use Rattle.text.proofs.Picks.{picked, false_true}
 use Rattle.text.proofs.Puts.{put_fits, sets_append}
 use Rattle.model.specs.Limits.{most_tasks, most_acts}
 use Rattle.model.specs.Tables.{Table}
-use Rattle.model.specs.States.{task_at}
+use Rattle.model.specs.States.{task_at, act_at}
 use Rattle.model.specs.Rows.{wellformed}
 use Rattle.model.specs.Sound.{sound}
 use Rattle.model.specs.declared.State.{State}
@@ -23,13 +23,16 @@ use Rattle.model.proofs.Formed.{formed}
 use Rattle.logs.specs.Lines.{longest_row}
 use Rattle.prepared.specs.Prepared.{table_in, Prepared}
 use Rattle.prepared.proofs.Stored.{most_tasks_lem, most_acts_lem}
+use Rattle.managing.specs.Listed.{listed_of}
 use Rattle.fields.specs.Forms.{a_number, form_ok}
 use Rattle.fields.specs.Fields.{fields_text, values_ok, repeated}
 use Rattle.fields.proofs.Parts.{widths_of, text_short}
 use Rattle.saved.specs.Rows.{state_word, task_forms, act_forms, row_forms, task_values, row_values, row_text}
-use Rattle.saved.specs.Written.{Marked, tasks_text, acts_text, longest_tasks, longest_acts}
-use Rattle.saved.specs.declared.Sets.{Sets}
+use Rattle.saved.specs.Written.{tasks_text, acts_text, longest_tasks, longest_acts}
+use Rattle.saved.specs.Listed.{ListsOf}
+use Rattle.saved.specs.declared.Lists.{Lists}
 use Rattle.saved.proofs.Values.{task_part, act_part}
+use Rattle.saved.proofs.Listed.{lists_like}
 use Rattle.saved.proofs.Sayable.{task_ok, act_ok, values_ok_lem}
 use Rattle.saved.proofs.Lengths.{parts_text, date_text, parts_more, parts_short, tasks_text_lem, acts_text_lem, row_text_lem, row_short}
 
@@ -68,11 +71,11 @@ module _ {fs : List ℕ} {f : ℕ → List ℕ} {b₀ : List ℕ} {at : ℕ} {b 
 
 -- the parts of a state under a prepared table
 module _ {rows index : List ℕ} (P : Prepared rows index) (s : State) where
-  -- a task's values are its part, N and R as they were added
-  pub task_is : {r : Sets} → Marked (table_in rows index) s r → {t n : ℕ} → n ≡ (table_in rows index).ntasks → t < n → {v : List ℕ} → v ≡ task_values (task_at s t) (get_or r.run t 0) (get_or r.halt t 0) → v ≡ task_part (table_in rows index) s t
-  task_is m {t} q h e =
-      let l : t < most_tasks = omega (arith, most_tasks_lem P) in
-      e ∙ rw (m.run t l, m.halt t l)
+  -- a task's values are its part, N and R as they stand beside the state
+  pub task_is : {r : Lists} {l : List ℕ} → ((a : ℕ) → a < most_acts → get_or l a 0 ≡ listed_of (act_at s a)) → {t : ℕ} → ListsOf (table_in rows index) l t r → {v : List ℕ} → v ≡ task_values (task_at s t) r.run r.halt → v ≡ task_part (table_in rows index) s t
+  task_is {l = l} same {t} m e =
+      let b = lists_like (table_in rows index) s l t (table_in rows index).nacts (λ a h. same a (omega (arith, most_acts_lem P))) in
+      e ∙ rw (m.run, m.halt, b.0, b.1)
 
   module _ (ok : T (sound (table_in rows index) s)) {b₀ : List ℕ} {at : ℕ} {b : List ℕ} {p i n : ℕ} where
     -- there is room for one task more

@@ -1,6 +1,6 @@
 -- "A file may now start with a `state` row, one line of at most 4,095 bytes with every field of the state, tasks then activities, in document
 -- 01's order: sets as in `sm`, yes as 1, managing as 1, `manager` or `ether` where no number stands, numbers to 13 digits."
-use Rattle.std.specs.Prelude.{ℕ, zero, suc, ◌+◌, ◌*◌, ◌^◌, Bool, List, [], ◌∷◌, ◌++◌, length, get_or, set, take, leb, eqb}
+use Rattle.std.specs.Prelude.{ℕ, zero, suc, ◌+◌, ◌*◌, ◌^◌, Bool, List, [], ◌∷◌, ◌++◌, length, get_or, set, take, leb, eqb, Result, Ok, Err}
 use Rattle.text.specs.Parts.{pick, split_on}
 use Rattle.text.specs.Set.{member}
 use Rattle.text.specs.Words.{same_list}
@@ -17,10 +17,11 @@ use Rattle.model.specs.declared.Place.{Place}
 use Rattle.model.specs.declared.Place.TheVariants.{Ether, Codel}
 use Rattle.model.specs.declared.Holder.{Holder}
 use Rattle.model.specs.declared.Holder.TheVariants.{Manager, Activity}
+use Rattle.model.specs.Refusals.{number_of}
+use Rattle.model.specs.declared.refusal.Refusal.{Refusal}
 use Rattle.logs.specs.Lines.{longest_row}
 use Rattle.fields.specs.Forms.{a_number, a_yes, a_holder, a_set, a_place, no_number}
 use Rattle.fields.specs.Fields.{repeated, Part, part, none, read_fields, fields_text}
-use Rattle.saved.specs.declared.Read.{Read}
 
 -- `state`
 unfoldable pub state_word : List ℕ
@@ -175,11 +176,18 @@ state_from K vs = record {
 }
 
 -- each member of N and R is an activity of its task: no state has another
+abbrev pub own_lists : Table → List ℕ → ℕ → Bool
+own_lists K vs t = within K t (set_at vs (task_place t + run_field)) and within K t (set_at vs (task_place t + halt_field))
+
 unfoldable pub sets_within : Table → List ℕ → Bool
-sets_within K vs = each K.ntasks (λ t. within K t (set_at vs (task_place t + run_field)) and within K t (set_at vs (task_place t + halt_field)))
+sets_within K vs = each K.ntasks (own_lists K vs)
 
 -- What a line says as a row, without its newline: "11 for one that does not read"; 20 where a set is not within its task, since no state
 -- is that.
+pub record Read : Type 0 where
+  pub number : ℕ
+  pub state : State
+
 abbrev pub refused : ℕ → Read
 refused n = record { number = n; state = fresh }
 
@@ -194,3 +202,8 @@ part_in K (w ∷ ps) = pick (same_list w state_word) (read_fields (row_forms K) 
 
 unfoldable pub read_state : Table → List ℕ → Read
 read_state K p = on_part K (pick (leb longest_row (length p)) none (part_in K (split_on 9 p)))
+
+-- what the code answers: the state, or why there is none
+abbrev pub read_by : Result State Refusal → Read
+read_by (Ok s) = record { number = 0; state = s }
+read_by (Err r) = refused (number_of r)

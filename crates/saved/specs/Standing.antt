@@ -1,6 +1,6 @@
 -- A row compared in place with a state: what is asked of the state's records, and the row's beginning.
-use Rattle.std.specs.Prelude.{ℕ, Bool, true, false, ◌≡◌, List, [], ◌∷◌, ◌++◌, ltb, eqb}
-use Rattle.text.specs.Parts.{pick}
+use Rattle.std.specs.Prelude.{ℕ, Bool, true, false, not, ◌≡◌, List, [], ◌∷◌, ◌++◌, ltb, eqb}
+use Rattle.model.specs.Tests.{◌and◌}
 use Rattle.model.specs.Limits.{most_acts, most_codels}
 use Rattle.model.specs.Tables.{Table, is_ether}
 use Rattle.model.specs.declared.Act.{Act}
@@ -23,8 +23,8 @@ place_fits Ether = true
 place_fits (Codel c) = ltb c most_codels
 
 -- an activity rests at ether
-unfoldable pub is_idle : Act → Bool
-is_idle y = pick (is_ether y.place) (pick y.executing false (eqb y.clock 0)) false
+abbrev pub is_idle : Act → Bool
+is_idle y = is_ether y.place and not y.executing and eqb y.clock 0
 
 -- N and R of a task that is not managing, by what stands beside the state, are empty
 pub record Unlisted (K : Table) (l : List ℕ) (t : ℕ) (managing : Bool) : Type 0 where

@@ -1,44 +1,29 @@
 -- Rows as the code reads and writes them: over buffers that are lent, and the records one after another.
-use Rattle.std.specs.Prelude.{ℕ, ◌*◌, ◌<◌, Bool, false, ◌≡◌, List, length, get_or, leb, eqb}
+use Rattle.std.specs.Prelude.{ℕ, ◌*◌, List, replicate, length, leb, eqb, Option, Some, None}
 use Rattle.text.specs.Parts.{pick}
 use Rattle.model.specs.Limits.{most_tasks, most_acts}
 use Rattle.model.specs.Tables.{Table}
 use Rattle.model.specs.declared.State.{State}
 use Rattle.fields.specs.Fields.{repeated, Taken, took, fields_text}
-use Rattle.fields.specs.declared.End.{End}
-use Rattle.fields.specs.declared.End.TheVariants.{At, Bad}
 use Rattle.logs.specs.Lines.{longest_row}
-use Rattle.saved.specs.Rows.{begins_row, task_forms, act_forms, row_forms, run_bits, halt_bits, tasks_values, acts_values, tasks_said, acts_said}
-use Rattle.saved.specs.declared.Sets.{Sets}
+use Rattle.saved.specs.Rows.{begins_row, most_values, task_forms, act_forms, row_forms, tasks_values, acts_values}
 
 -- the fields of a line behind its word, read into a buffer
 abbrev pub whole_of : Table → List ℕ → List ℕ → Taken
 whole_of K line b =
-    pick (leb longest_row (length line)) (record { end = Bad; values = b })
-    (pick (begins_row line) (took (row_forms K) line 5 0 b) (record { end = Bad; values = b }))
+    pick (leb longest_row (length line)) (record { end = None; values = b })
+    (pick (begins_row line) (took (row_forms K) line 5 0 b) (record { end = None; values = b }))
 
--- they end where the line ends
-abbrev pub ends_at : ℕ → End → Bool
-ends_at n (At e) = eqb e n
-ends_at n Bad = false
+-- their values, where they end where the line ends; zeros behind them
+abbrev pub ends_at : ℕ → List ℕ → Option ℕ → Option (List ℕ)
+ends_at n vs (Some e) = pick (eqb e n) (Some vs) None
+ends_at n vs None = None
 
-pub record Whole (K : Table) (line b : List ℕ) (r : Bool) (after : List ℕ) : Type 0 where
-  pub fine : r ≡ ends_at (length line) (whole_of K line b).end
-  pub values : after ≡ (whole_of K line b).values
+abbrev pub no_values : List ℕ
+no_values = replicate most_values 0
 
--- a state with its first n tasks, its first n activities, as values say
-abbrev pub tasks_from : List ℕ → ℕ → State → State
-tasks_from vs n s = record { date = s.date; tasks = tasks_said vs n s.tasks; acts = s.acts }
-
-abbrev pub acts_from : Table → List ℕ → ℕ → State → State
-acts_from K vs n s = record { date = s.date; tasks = s.tasks; acts = acts_said K vs n s.acts }
-
--- N and R of each task
-pub record Marked (K : Table) (s : State) (r : Sets) : Type 0 where
-  pub run : (t : ℕ) → t < most_tasks → get_or r.run t 0 ≡ run_bits K s t K.nacts
-  pub halt : (t : ℕ) → t < most_tasks → get_or r.halt t 0 ≡ halt_bits K s t K.nacts
-  pub runs : length r.run ≡ most_tasks
-  pub halts : length r.halt ≡ most_tasks
+unfoldable pub whole_values : Table → List ℕ → Option (List ℕ)
+whole_values K line = ends_at (length line) (whole_of K line no_values).values (whole_of K line no_values).end
 
 -- the parts of the first n tasks, of the first n activities, as they are written, and how long they are at most
 abbrev pub tasks_text : Table → State → ℕ → List ℕ

@@ -2,24 +2,27 @@
 // described once; a table's counts say how many parts there are.
 #![tactic(auto)]
 
-ghost use Rattle.std.specs.Prelude.{◌≡◌, [], ◌∷◌, ◌+◌, ◌<◌, ◌≤◌, length, T};
+ghost use Rattle.std.specs.Prelude.{◌≡◌, ℕ, slice_index, [], ◌∷◌, ◌+◌, ◌<◌, ◌≤◌, length, T};
 ghost use Rattle.std.proofs.lemmas.List.Edits.{sets};
 ghost use Rattle.text.specs.Standing.{past};
 ghost use Rattle.model.specs.Tests.{one};
 ghost use Rattle.model.specs.Limits.{most_tasks, most_acts};
+ghost use Rattle.model.specs.States.{act_at};
 ghost use Rattle.model.specs.Sound.{sound};
 ghost use Rattle.logs.specs.Lines.{longest_row};
-ghost use Rattle.prepared.specs.Prepared.{table_in, Prepared};
+ghost use Rattle.prepared.specs.Held.{held};
+ghost use Rattle.managing.specs.Listed.{listed_of};
 ghost use Rattle.fields.specs.Forms.{a_holder, a_set, a_place, form_text};
 ghost use Rattle.fields.specs.Fields.{fields_text};
-ghost use Rattle.saved.specs.Rows.{task_forms, task_fields, act_forms, act_fields, most_values, holder_of, place_of, holder_value, place_value, set_at, task_from, act_from, state_from, sets_within, read_state, refused, bit_of, task_values, act_values, begins_row, row_text};
-ghost use Rattle.saved.specs.Written.{Whole, tasks_from, acts_from, Marked, tasks_text, acts_text, longest_tasks, longest_acts};
+ghost use Rattle.saved.specs.Rows.{tasks_said, acts_said, task_forms, task_fields, act_forms, act_fields, most_values, holder_of, place_of, holder_value, place_value, set_at, task_from, act_from, state_from, own_lists, sets_within, read_by, read_state, bit_of, task_values, act_values, begins_row, row_text};
+ghost use Rattle.saved.specs.Written.{whole_values, tasks_text, acts_text, longest_tasks, longest_acts};
 ghost use Rattle.saved.specs.Listed.{run_by, halt_by, ListsOf};
-ghost use Rattle.saved.specs.Reading.{read_date, read_list, read_task, read_act};
+ghost use Rattle.saved.specs.Reading.{as_set, read_date, read_list, read_task, read_act};
 ghost use Rattle.saved.specs.Standing.{holder_fits, place_fits, is_idle, Unlisted, head_text};
 
-use fields::{End, Stood};
-use model::{Act, Holder, Place, State, Task};
+use fields::Stood;
+use model::{Act, Holder, Place, Refusal, State, Task};
+use prepared::Component;
 use text::Set;
 
 // The date's field, then for each task timer, signal, manager, holder, N, R, cycle, open date, missed and longest, then for each activity
@@ -53,87 +56,66 @@ const HALT_FIELD: usize = 5;
 // How many values a row has at most.
 const MOST_VALUES: usize = 1 + model::MOST_TASKS * TASK_FIELDS + model::MOST_ACTS * ACT_FIELDS;
 
-// What a row says: 0 and its state, or 11 for one that does not read and 20 for one that no state can be, both with the fresh state.
-#[derive(Clone, Copy)]
-pub struct Read {
-    pub number: u64,
-    pub state: State,
-}
-
-// N and R of each task as numbers, bit a for activity a.
-#[derive(Clone, Copy)]
-struct Sets {
-    run: [u64; model::MOST_TASKS],
-    halt: [u64; model::MOST_TASKS],
-}
-
 // Does a line begin with `state` and a tab? Then it is no step.
 pub fn begins_row(line: &[u8]) -> bool
     ensures { result ≡ begins_row line.now }
 {
-    if line.len() < 6 {
-        return false;
-    }
-    text::same(&line[..6], b"state\t")
+    line.starts_with(b"state\t")
 }
 
-// Reads the fields of a row's line behind its word, and says whether they are just those that the table's counts ask for.
-fn read_values(rows: &[u32], index: &[u32], line: &[u8], values: &mut [u64]) -> bool
-    requires { Prepared rows.now index.now × (length values.old ≡ most_values) }
-    ensures { Whole (table_in rows.now index.now) line.now values.old result values.new }
+// The values of the fields of a row's line behind its word, where they are just those that the table's counts ask for; zeros behind them.
+#[tactic(auto, using(prepared::proofs::Stored::most_tasks_lem))]
+fn read_values(component: &Component, line: &[u8]) -> Option<[u64; MOST_VALUES]>
+    ensures { result ≡ whole_values (held component.now) line.now }
 {
-    if logs::LONGEST_ROW <= line.len() {
-        return false;
+    if logs::LONGEST_ROW <= line.len() || !begins_row(line) {
+        return None;
     }
-    if !begins_row(line) {
-        return false;
+    let mut values = [0; MOST_VALUES];
+    let nt = component.tasks();
+    let na = component.acts();
+    let p = fields::read_fields(line, 5, &DATE_FORMS, &mut values, 0)?;
+    let q = fields::read_parts(line, p, &TASK_FORMS, nt, &mut values, 1)?;
+    let e = fields::read_parts(line, q, &ACT_FORMS, na, &mut values, 1 + nt * TASK_FIELDS)?;
+    if e == line.len() {
+        return Some(values);
     }
-    let date = DATE_FORMS;
-    let End::At(p) = fields::read_fields(line, 5, &date, values, 0) else {
-        return false;
-    };
-    let nt = prepared::tasks(rows, index);
-    let task = TASK_FORMS;
-    let End::At(q) = fields::read_parts(line, p, &task, nt, values, 1) else {
-        return false;
-    };
-    let na = prepared::acts(rows, index);
-    let act = ACT_FORMS;
-    let End::At(e) = fields::read_parts(line, q, &act, na, values, 1 + nt * TASK_FIELDS) else {
-        return false;
-    };
-    e == line.len()
+    None
 }
 
-// Who holds, as a value says it.
+// Who holds, as a value says it. A holder and a place are types of their own, each with its word: what serves both is longer than the two.
 fn holder_of(v: u64) -> Holder
     ensures { result ≡ holder_of v }
 {
-    if v == fields::NO_NUMBER {
-        return Holder::Manager;
+    match v {
+        fields::NO_NUMBER => Holder::Manager,
+        a => Holder::Activity(a as usize),
     }
-    Holder::Activity(v as usize)
 }
 
 // Where an activity is, as a value says it.
 fn place_of(v: u64) -> Place
     ensures { result ≡ place_of v }
 {
-    if v == fields::NO_NUMBER {
-        return Place::Ether;
+    match v {
+        fields::NO_NUMBER => Place::Ether,
+        c => Place::Codel(c as usize),
     }
-    Place::Codel(v as usize)
 }
 
 // A set as a value says it.
+fn as_set(v: u64) -> Set
+    ensures { result ≡ as_set v }
+{
+    Set { low: v, high: 0 }
+}
+
+// The set that stands at a place among the values.
 fn set_at(values: &[u64], i: usize) -> Set
     requires { i < length values.now }
     ensures { result ≡ set_at values.now i }
 {
-    Set {
-        low: values[i],
-        high: 0,
-    }
+    as_set(values[i])
 }
 
 // The record of a task, whose values stand from a place on.
@@ -162,103 +144,96 @@ fn act_from(values: &[u64], at: usize, a: usize, n: Set, r: Set) -> Act
         place: place_of(values[at]),
         executing: values[at + 1] == 1,
         clock: values[at + 2],
-        run: text::has_member(n, a),
-        halt: text::has_member(r, a),
+        run: n.has_member(a),
+        halt: r.has_member(a),
     }
 }
 
-// The state's tasks: the table's as the values say, fresh behind them.
-fn with_tasks(nt: usize, values: &[u64], s: State) -> State
-    requires { (nt ≤ most_tasks) × (length values.now ≡ most_values) }
-    ensures { result ≡ tasks_from values.now nt s }
+// A state's tasks: the table's as the values say, behind them as they were.
+#[tactic(auto, using(prepared::proofs::Stored::most_tasks_lem))]
+fn tasks_said(
+    component: &Component,
+    values: &[u64],
+    mut tasks: [Task; model::MOST_TASKS],
+) -> [Task; model::MOST_TASKS]
+    requires { (length values.now ≡ most_values) }
+    ensures { result ≡ tasks_said values.now (held component.now).ntasks tasks }
 {
-    let mut z = s;
-    let mut t = 0;
-    while t < nt {
-        let x = task_from(values, 1 + t * TASK_FIELDS);
-        z.tasks[t] = x;
-        t += 1;
+    for t in 0..component.tasks() {
+        tasks[t] = task_from(values, 1 + t * TASK_FIELDS);
     }
-    z
+    tasks
 }
 
-// The state's activities: the table's as the values say, fresh behind them.
-fn with_acts(rows: &[u32], index: &[u32], values: &[u64], s: State) -> State
-    requires { Prepared rows.now index.now × (length values.now ≡ most_values) }
-    ensures { result ≡ acts_from (table_in rows.now index.now) values.now (table_in rows.now index.now).nacts s }
+// A state's activities: the table's as the values say, behind them as they were.
+#[tactic(auto, using(prepared::proofs::Stored::most_tasks_lem, prepared::proofs::Stored::most_acts_lem))]
+fn acts_said(
+    component: &Component,
+    values: &[u64],
+    mut acts: [Act; model::MOST_ACTS],
+) -> [Act; model::MOST_ACTS]
+    requires { (length values.now ≡ most_values) }
+    ensures { result ≡ acts_said (held component.now) values.now (held component.now).nacts acts }
 {
-    let na = prepared::acts(rows, index);
-    let begin = 1 + prepared::tasks(rows, index) * TASK_FIELDS;
-    let mut z = s;
-    let mut a = 0;
-    while a < na {
-        let part = 1 + prepared::task_of(rows, index, a) * TASK_FIELDS;
+    let begin = 1 + component.tasks() * TASK_FIELDS;
+    for a in 0..component.acts() {
+        let part = 1 + component.task_of(a) * TASK_FIELDS;
         let n = set_at(values, part + RUN_FIELD);
         let r = set_at(values, part + HALT_FIELD);
-        let y = act_from(values, begin + a * ACT_FIELDS, a, n, r);
-        z.acts[a] = y;
-        a += 1;
+        acts[a] = act_from(values, begin + a * ACT_FIELDS, a, n, r);
     }
-    z
+    acts
 }
 
 // The state that the values of a row say.
-fn state_from(rows: &[u32], index: &[u32], values: &[u64]) -> State
-    requires { Prepared rows.now index.now × (length values.now ≡ most_values) }
-    ensures { result ≡ state_from (table_in rows.now index.now) values.now }
+fn state_from(component: &Component, values: &[u64]) -> State
+    requires { (length values.now ≡ most_values) }
+    ensures { result ≡ state_from (held component.now) values.now }
 {
-    let mut s = records::fresh_state();
-    s.date = values[0];
-    let z = with_tasks(prepared::tasks(rows, index), values, s);
-    with_acts(rows, index, values, z)
+    let fresh = records::fresh_state();
+    State {
+        date: values[0],
+        tasks: tasks_said(component, values, fresh.tasks),
+        acts: acts_said(component, values, fresh.acts),
+    }
 }
 
-// Is each member of N and of R an activity of the task? Any other could not be kept in a state.
-fn sets_within(rows: &[u32], index: &[u32], values: &[u64]) -> bool
-    requires { Prepared rows.now index.now × (length values.now ≡ most_values) }
-    ensures { result ≡ sets_within (table_in rows.now index.now) values.now }
+// Is each member of N and of R of a task one of its activities?
+#[tactic(auto, using(prepared::proofs::Stored::most_tasks_lem))]
+fn has_own_lists(component: &Component, values: &[u64], t: usize) -> bool
+    requires { (t < (held component.now).ntasks) × (length values.now ≡ most_values) }
+    ensures { result ≡ own_lists (held component.now) values.now t }
 {
-    let nt = prepared::tasks(rows, index);
-    let mut t = 0;
-    while t < nt {
-        let part = 1 + t * TASK_FIELDS;
-        if !managing::is_within(rows, index, t, set_at(values, part + RUN_FIELD)) {
+    let part = 1 + t * TASK_FIELDS;
+    managing::is_within(component, t, set_at(values, part + RUN_FIELD))
+        && managing::is_within(component, t, set_at(values, part + HALT_FIELD))
+}
+
+// Is it so of each task? Any other member could not be kept in a state.
+fn sets_within(component: &Component, values: &[u64]) -> bool
+    requires { (length values.now ≡ most_values) }
+    ensures { result ≡ sets_within (held component.now) values.now }
+{
+    for t in 0..component.tasks() {
+        if !has_own_lists(component, values, t) {
             return false;
         }
-        if !managing::is_within(rows, index, t, set_at(values, part + HALT_FIELD)) {
-            return false;
-        }
-        t += 1;
     }
     true
 }
 
-// A row that is refused with this number.
-pub fn refused_by(n: u64) -> Read
-    ensures { result ≡ refused n }
+// The state that a line says as a row, without its newline: no step where it does not read, and not sound where no state can be that. Whether
+// the state is sound is not asked here.
+pub fn read_state(component: &Component, line: &[u8]) -> Result<State, Refusal>
+    ensures { read_by result ≡ read_state (held component.now) line.now }
 {
-    Read {
-        number: n,
-        state: records::fresh_state(),
+    let Some(values) = read_values(component, line) else {
+        return Err(Refusal::NoStep);
+    };
+    if !sets_within(component, &values) {
+        return Err(Refusal::Unsound);
     }
-}
-
-// What a line says as a row, without its newline. Whether the state is sound is not asked here.
-pub fn read_state(rows: &[u32], index: &[u32], line: &[u8]) -> Read
-    requires { Prepared rows.now index.now }
-    ensures { result ≡ read_state (table_in rows.now index.now) line.now }
-{
-    let mut values = [0u64; MOST_VALUES];
-    if !read_values(rows, index, line, &mut values) {
-        return refused_by(11);
-    }
-    if !sets_within(rows, index, &values) {
-        return refused_by(20);
-    }
-    Read {
-        number: 0,
-        state: state_from(rows, index, &values),
-    }
+    Ok(state_from(component, &values))
 }
 
 fn holder_value(h: Holder) -> u64
@@ -279,15 +254,6 @@ fn place_value(p: Place) -> u64
     }
 }
 
-fn yes_value(b: bool) -> u64
-    ensures { result ≡ one b }
-{
-    if b {
-        return 1;
-    }
-    0
-}
-
 // The bit of an activity in a set, where it is a member.
 fn bit_of(b: bool, a: usize) -> u64
     requires { a < most_acts }
@@ -299,40 +265,39 @@ fn bit_of(b: bool, a: usize) -> u64
     0
 }
 
-// N and R of each task.
-fn sets_of(rows: &[u32], index: &[u32], s: State) -> Sets
-    requires { Prepared rows.now index.now }
-    ensures { Marked (table_in rows.now index.now) s result }
+// N and R of one task as numbers, bit a for activity a.
+#[derive(Clone, Copy)]
+struct Lists {
+    run: u64,
+    halt: u64,
+}
+
+// N and R of a task, by what stands beside the state.
+fn lists_of(component: &Component, listed: &[usize], t: usize) -> Lists
+    requires { (t < (held component.now).ntasks) × ((held component.now).nacts ≤ length listed.now) }
+    ensures { ListsOf (held component.now) listed.now t result }
 {
-    let na = prepared::acts(rows, index);
-    let mut run = [0u64; model::MOST_TASKS];
-    let mut halt = [0u64; model::MOST_TASKS];
-    let mut a = 0;
-    while a < na {
-        let t = prepared::task_of(rows, index, a);
-        let y = s.acts[a];
-        run[t] = run[t] + bit_of(y.run, a);
-        halt[t] = halt[t] + bit_of(y.halt, a);
-        a += 1;
+    let mut run = 0;
+    let mut halt = 0;
+    for a in component.acts_begin(t)..component.acts_end(t) {
+        let k = listed[a];
+        run += bit_of(k % 2 == 1, a);
+        halt += bit_of(2 <= k, a);
     }
-    Sets {
-        run: run,
-        halt: halt,
-    }
+    Lists { run, halt }
 }
 
 // The values of a task's part, N and R given.
-fn task_values(x: Task, n: u64, r: u64) -> [u64; TASK_FIELDS]
-    ensures { result ≡ task_values x n r }
+fn task_values(x: Task, lists: Lists) -> [u64; TASK_FIELDS]
+    ensures { result ≡ task_values x lists.run lists.halt }
 {
-    let h = x.holder;
     [
         x.timer,
-        yes_value(x.signal),
-        yes_value(x.managing),
-        holder_value(h),
-        n,
-        r,
+        x.signal as u64,
+        x.managing as u64,
+        holder_value(x.holder),
+        lists.run,
+        lists.halt,
         x.cycle,
         x.opened,
         x.missed,
@@ -344,90 +309,55 @@ fn task_values(x: Task, n: u64, r: u64) -> [u64; TASK_FIELDS]
 fn act_values(y: Act) -> [u64; ACT_FIELDS]
     ensures { result ≡ act_values y }
 {
-    let p = y.place;
-    [place_value(p), yes_value(y.executing), y.clock]
+    [place_value(y.place), y.executing as u64, y.clock]
+}
+
+// In which of N and R each activity of a state is.
+fn listed_in(s: &State) -> [usize; model::MOST_ACTS]
+    ensures { (a : ℕ) → a < most_acts → slice_index result a ≡ listed_of (act_at s.now a) }
+{
+    s.acts.map(managing::listed_of)
 }
 
 // Writes the tasks' parts at a place, and answers the place after them.
-fn put_tasks(rows: &[u32], index: &[u32], buf: &mut [u8], at: usize, s: State) -> usize
-    requires { Prepared rows.now index.now × T (sound (table_in rows.now index.now) s) × (at + longest_tasks ≤ length buf.old) }
-    ensures { (result ≡ at + length (tasks_text (table_in rows.now index.now) s (table_in rows.now index.now).ntasks)) × (buf.new ≡ sets buf.old at (tasks_text (table_in rows.now index.now) s (table_in rows.now index.now).ntasks)) }
+#[tactic(auto, using(prepared::proofs::Stored::most_tasks_lem))]
+fn put_tasks(component: &Component, buf: &mut [u8], at: usize, s: &State) -> usize
+    requires { T (sound (held component.now) s.now) × (at + longest_tasks ≤ length buf.old) }
+    ensures { (result ≡ at + length (tasks_text (held component.now) s.now (held component.now).ntasks)) × (buf.new ≡ sets buf.old at (tasks_text (held component.now) s.now (held component.now).ntasks)) }
 {
-    let nt = prepared::tasks(rows, index);
-    let task = TASK_FORMS;
-    let both = sets_of(rows, index, s);
-    let run = both.run;
-    let halt = both.halt;
+    let listed = listed_in(s);
     let mut p = at;
-    let mut t = 0;
-    while t < nt {
-        let x = s.tasks[t];
-        let values = task_values(x, run[t], halt[t]);
-        p = fields::put_fields(buf, p, &task, &values);
-        t += 1;
+    for t in 0..component.tasks() {
+        let values = task_values(s.tasks[t], lists_of(component, &listed, t));
+        p = fields::put_fields(buf, p, &TASK_FORMS, &values);
     }
     p
 }
 
 // Writes the activities' parts at a place, and answers the place after them.
-fn put_acts(rows: &[u32], index: &[u32], buf: &mut [u8], at: usize, s: State) -> usize
-    requires { Prepared rows.now index.now × T (sound (table_in rows.now index.now) s) × (at + longest_acts ≤ length buf.old) }
-    ensures { (result ≡ at + length (acts_text s (table_in rows.now index.now).nacts)) × (buf.new ≡ sets buf.old at (acts_text s (table_in rows.now index.now).nacts)) }
+#[tactic(auto, using(prepared::proofs::Stored::most_acts_lem))]
+fn put_acts(component: &Component, buf: &mut [u8], at: usize, s: &State) -> usize
+    requires { T (sound (held component.now) s.now) × (at + longest_acts ≤ length buf.old) }
+    ensures { (result ≡ at + length (acts_text s.now (held component.now).nacts)) × (buf.new ≡ sets buf.old at (acts_text s.now (held component.now).nacts)) }
 {
-    let na = prepared::acts(rows, index);
-    let act = ACT_FORMS;
     let mut p = at;
-    let mut a = 0;
-    while a < na {
-        let y = s.acts[a];
-        let values = act_values(y);
-        p = fields::put_fields(buf, p, &act, &values);
-        a += 1;
+    for a in 0..component.acts() {
+        p = fields::put_fields(buf, p, &ACT_FORMS, &act_values(s.acts[a]));
     }
     p
 }
 
 // Writes a sound state's row at the front of a buffer that has room for any, and answers its length.
-pub fn put_state(rows: &[u32], index: &[u32], s: State, buf: &mut [u8]) -> usize
-    requires { Prepared rows.now index.now × T (sound (table_in rows.now index.now) s) × (longest_row ≤ length buf.old) }
-    ensures { (result ≡ length (row_text (table_in rows.now index.now) s)) × (buf.new ≡ sets buf.old 0 (row_text (table_in rows.now index.now) s)) }
+pub fn put_state(component: &Component, s: State, buf: &mut [u8]) -> usize
+    requires { T (sound (held component.now) s) × (longest_row ≤ length buf.old) }
+    ensures { (result ≡ length (row_text (held component.now) s)) × (buf.new ≡ sets buf.old 0 (row_text (held component.now) s)) }
 {
     let w = text::put_bytes(buf, 0, b"state");
-    let date = DATE_FORMS;
-    let dates = [s.date];
-    let p = fields::put_fields(buf, w, &date, &dates);
-    let q = put_tasks(rows, index, buf, p, s);
-    let e = put_acts(rows, index, buf, q, s);
+    let p = fields::put_fields(buf, w, &DATE_FORMS, &[s.date]);
+    let q = put_tasks(component, buf, p, &s);
+    let e = put_acts(component, buf, q, &s);
     buf[e] = text::NEWLINE;
     e + 1
-}
-
-// N and R of one task as numbers.
-#[derive(Clone, Copy)]
-struct Lists {
-    run: u64,
-    halt: u64,
-}
-
-// N and R of a task, by what stands beside the state.
-fn lists_of(rows: &[u32], index: &[u32], listed: &[usize], t: usize) -> Lists
-    requires { Prepared rows.now index.now × (t < (table_in rows.now index.now).ntasks) × ((table_in rows.now index.now).nacts ≤ length listed.now) }
-    ensures { ListsOf (table_in rows.now index.now) listed.now t result }
-{
-    let end = prepared::acts_end(rows, index, t);
-    let mut a = prepared::acts_begin(rows, index, t);
-    let mut run: u64 = 0;
-    let mut halt: u64 = 0;
-    while a < end {
-        let k = listed[a];
-        run = run + bit_of(k % 2 == 1, a);
-        halt = halt + bit_of(2 <= k, a);
-        a += 1;
-    }
-    Lists {
-        run: run,
-        halt: halt,
-    }
 }
 
 // The place behind who holds, with the tab before it, where it stands at a place; the end where it does not.
@@ -465,14 +395,7 @@ pub fn past_date(log: &[u8], at: usize, date: u64) -> usize
 fn is_idle(y: Act) -> bool
     ensures { result ≡ is_idle y }
 {
-    let p = y.place;
-    if !records::is_ether(p) {
-        return false;
-    }
-    if y.executing {
-        return false;
-    }
-    y.clock == 0
+    records::is_ether(y.place) && !y.executing && y.clock == 0
 }
 
 // The place behind an activity's part where it stands at a place; the end where it does not.
@@ -483,52 +406,48 @@ pub fn past_act(log: &[u8], at: usize, y: Act) -> usize
     if is_idle(y) {
         return text::past_bytes(log, at, b"\tether\t0\t0");
     }
-    let p = y.place;
-    let a = past_place(log, at, p);
-    let b = fields::past_number(log, a, yes_value(y.executing));
+    let a = past_place(log, at, y.place);
+    let b = fields::past_number(log, a, y.executing as u64);
     fields::past_number(log, b, y.clock)
 }
 
 // The same of N and R of a task, by what stands beside the state.
 fn past_lists(
-    rows: &[u32],
-    index: &[u32],
+    component: &Component,
     log: &[u8],
     at: usize,
     listed: &[usize],
     t: usize,
     managing: bool,
 ) -> usize
-    requires { Prepared rows.now index.now × (t < (table_in rows.now index.now).ntasks) × ((table_in rows.now index.now).nacts ≤ length listed.now) × (at ≤ length log.now) × Unlisted (table_in rows.now index.now) listed.now t managing }
-    ensures { result ≡ past log.now at (fields_text (a_set ∷ a_set ∷ []) (run_by (table_in rows.now index.now) listed.now t (table_in rows.now index.now).nacts ∷ halt_by (table_in rows.now index.now) listed.now t (table_in rows.now index.now).nacts ∷ [])) }
+    requires { (t < (held component.now).ntasks) × ((held component.now).nacts ≤ length listed.now) × (at ≤ length log.now) × Unlisted (held component.now) listed.now t managing }
+    ensures { result ≡ past log.now at (fields_text (a_set ∷ a_set ∷ []) (run_by (held component.now) listed.now t (held component.now).nacts ∷ halt_by (held component.now) listed.now t (held component.now).nacts ∷ [])) }
 {
     if !managing {
         return text::past_bytes(log, at, b"\t0000000000000000\t0000000000000000");
     }
-    let lists = lists_of(rows, index, listed, t);
+    let lists = lists_of(component, listed, t);
     let p = fields::past_set(log, at, lists.run);
     fields::past_set(log, p, lists.halt)
 }
 
 // The same of a task's part, its N and R by what stands beside the state.
 pub fn past_task(
-    rows: &[u32],
-    index: &[u32],
+    component: &Component,
     log: &[u8],
     at: usize,
     listed: &[usize],
     t: usize,
     x: Task,
 ) -> usize
-    requires { Prepared rows.now index.now × (t < (table_in rows.now index.now).ntasks) × ((table_in rows.now index.now).nacts ≤ length listed.now) × (at ≤ length log.now) × T (holder_fits x.holder) × Unlisted (table_in rows.now index.now) listed.now t x.managing }
-    ensures { result ≡ past log.now at (fields_text task_forms (task_values x (run_by (table_in rows.now index.now) listed.now t (table_in rows.now index.now).nacts) (halt_by (table_in rows.now index.now) listed.now t (table_in rows.now index.now).nacts))) }
+    requires { (t < (held component.now).ntasks) × ((held component.now).nacts ≤ length listed.now) × (at ≤ length log.now) × T (holder_fits x.holder) × Unlisted (held component.now) listed.now t x.managing }
+    ensures { result ≡ past log.now at (fields_text task_forms (task_values x (run_by (held component.now) listed.now t (held component.now).nacts) (halt_by (held component.now) listed.now t (held component.now).nacts))) }
 {
-    let h = x.holder;
     let a = fields::past_number(log, at, x.timer);
-    let b = fields::past_number(log, a, yes_value(x.signal));
-    let c = fields::past_number(log, b, yes_value(x.managing));
-    let d = past_holder(log, c, h);
-    let e = past_lists(rows, index, log, d, listed, t, x.managing);
+    let b = fields::past_number(log, a, x.signal as u64);
+    let c = fields::past_number(log, b, x.managing as u64);
+    let d = past_holder(log, c, x.holder);
+    let e = past_lists(component, log, d, listed, t, x.managing);
     let f = fields::past_number(log, e, x.cycle);
     let g = fields::past_number(log, f, x.opened);
     let i = fields::past_number(log, g, x.missed);
@@ -536,16 +455,12 @@ pub fn past_task(
 }
 
 // N or R of a task as it was read in place, with the tab before it: within the task, or the end.
-fn list_at(rows: &[u32], index: &[u32], log: &[u8], at: usize, t: usize) -> Stood
-    requires { Prepared rows.now index.now × (t < (table_in rows.now index.now).ntasks) × (at ≤ length log.now) }
-    ensures { result ≡ read_list (table_in rows.now index.now) log.now t at }
+fn list_at(component: &Component, log: &[u8], at: usize, t: usize) -> Stood
+    requires { (t < (held component.now).ntasks) × (at ≤ length log.now) }
+    ensures { result ≡ read_list (held component.now) log.now t at }
 {
     let n = fields::set_at(log, at);
-    let set = Set {
-        low: n.value,
-        high: 0,
-    };
-    if managing::is_within(rows, index, t, set) {
+    if managing::is_within(component, t, as_set(n.value)) {
         return n;
     }
     fields::unread(log)
@@ -577,16 +492,16 @@ pub fn date_at(log: &[u8], at: usize) -> Stood
 }
 
 // Reads a task's part in place.
-pub fn task_at(rows: &[u32], index: &[u32], log: &[u8], at: usize, t: usize) -> TaskRead
-    requires { Prepared rows.now index.now × (t < (table_in rows.now index.now).ntasks) × (at ≤ length log.now) }
-    ensures { result ≡ read_task (table_in rows.now index.now) log.now t at }
+pub fn task_at(component: &Component, log: &[u8], at: usize, t: usize) -> TaskRead
+    requires { (t < (held component.now).ntasks) × (at ≤ length log.now) }
+    ensures { result ≡ read_task (held component.now) log.now t at }
 {
     let timer = fields::number_at(log, at);
     let signal = fields::yes_at(log, timer.end);
     let managing = fields::yes_at(log, signal.end);
     let holder = fields::word_at(log, managing.end, b"\tmanager");
-    let run = list_at(rows, index, log, holder.end, t);
-    let halt = list_at(rows, index, log, run.end, t);
+    let run = list_at(component, log, holder.end, t);
+    let halt = list_at(component, log, run.end, t);
     let cycle = fields::number_at(log, halt.end);
     let opened = fields::number_at(log, cycle.end);
     let missed = fields::number_at(log, opened.end);
@@ -616,15 +531,13 @@ pub fn act_at(log: &[u8], at: usize, a: usize, n: u64, r: u64) -> ActRead
     let place = fields::word_at(log, at, b"\tether");
     let executing = fields::yes_at(log, place.end);
     let clock = fields::number_at(log, executing.end);
-    let run = Set { low: n, high: 0 };
-    let halt = Set { low: r, high: 0 };
     ActRead {
         act: Act {
             place: place_of(place.value),
             executing: executing.value == 1,
             clock: clock.value,
-            run: text::has_member(run, a),
-            halt: text::has_member(halt, a),
+            run: as_set(n).has_member(a),
+            halt: as_set(r).has_member(a),
         },
         end: clock.end,
     }

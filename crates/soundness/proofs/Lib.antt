@@ -1,5 +1,3 @@
-pub mod Parts
-pub mod Walks
 pub mod Marked
-pub mod Sentences
 pub mod Rooms
+pub mod Past

@@ -1,33 +1,32 @@
--- The rows that a prepared table's rows name are few enough for the state and for the marks.
-use Prim.Native.Nat.{ℕ, ◌<◌}
-use mathlib.Core.List.{List}
-use mathlib.Core.Path.{◌≡◌}
-use native.Mathlib.Omega.{arith}
+-- The rows that a component's rows name are few enough for the state and for the marks.
+use Rattle.std.proofs.Common.{◌≡◌, ℕ, ◌<◌, arith}
 use Rattle.model.specs.Limits.{most_tasks, most_acts, most_codels}
 use Rattle.model.specs.declared.Place.{Place}
 use Rattle.model.specs.declared.Place.TheVariants.{Codel}
-use Rattle.prepared.specs.Prepared.{table_in, pause_of, Prepared}
+use Rattle.prepared.specs.Prepared.{pause_of}
+use Rattle.prepared.specs.Held.{held}
+use Rattle.prepared.specs.declared.component.Component.{Component}
 use Rattle.prepared.proofs.Stored.{shape, most_tasks_lem, most_acts_lem, most_codels_lem}
 use Rattle.soundness.proofs.Marked.{pause_codel}
 
-module _ {rows index : List ℕ} (P : Prepared rows index) where
+module _ (k : Component) where
   -- an activity's task
-  pub task_room : (a n t : ℕ) → t ≡ (table_in rows index).task a → a < n → n ≡ (table_in rows index).nacts → t < most_tasks
-  task_room a n t q h e = omega (arith, (shape P).task a (omega arith), most_tasks_lem P)
+  pub task_room : (a t : ℕ) → t ≡ (held k).task a → a < (held k).nacts → t < most_tasks
+  task_room a t q h = omega (arith, (shape k.prepared).task a h, most_tasks_lem k.prepared)
 
   -- where an edge pauses
-  pub pause_room : (p : Place) (e n c : ℕ) → p ≡ pause_of ((table_in rows index).edge e) → p ≡ Codel c → e < n → n ≡ (table_in rows index).nedges → c < most_codels
-  pause_room p e n c q f h i = omega (arith, pause_codel (table_in rows index) (shape P) e p c (omega arith) q f, most_codels_lem P)
+  pub pause_room : (p : Place) (e c : ℕ) → p ≡ pause_of ((held k).edge e) → p ≡ Codel c → e < (held k).nedges → c < most_codels
+  pause_room p e c q f h = omega (arith, pause_codel (held k) (shape k.prepared) e p c h q f, most_codels_lem k.prepared)
 
   -- the codels of a mutex row, and a codel's activity
-  module _ (m n c : ℕ) (h : m < n) (e : n ≡ (table_in rows index).nmutex) where
-    pub lower_room : c ≡ ((table_in rows index).mutex m).lo → c < (table_in rows index).ncodels
-    lower_room q = omega (arith, ((shape P).mutex m (omega arith)).0)
+  module _ (m c : ℕ) (h : m < (held k).nmutex) where
+    pub lower_room : c ≡ ((held k).mutex m).lo → c < (held k).ncodels
+    lower_room q = omega (arith, ((shape k.prepared).mutex m h).0)
 
-    pub upper_room : c ≡ ((table_in rows index).mutex m).hi → c < (table_in rows index).ncodels
-    upper_room q = omega (arith, ((shape P).mutex m (omega arith)).1)
+    pub upper_room : c ≡ ((held k).mutex m).hi → c < (held k).ncodels
+    upper_room q = omega (arith, ((shape k.prepared).mutex m h).1)
 
-  pub owner_room : (c a : ℕ) → a ≡ (table_in rows index).owner c → c < (table_in rows index).ncodels → a < most_acts
-  owner_room c a q h = omega (arith, (shape P).owner c h, most_acts_lem P)
+  pub owner_room : (c a : ℕ) → a ≡ (held k).owner c → c < (held k).ncodels → a < most_acts
+  owner_room c a q h = omega (arith, (shape k.prepared).owner c h, most_acts_lem k.prepared)
 
 pub ruleset rooms = (task_room, pause_room, lower_room, upper_room, owner_room)

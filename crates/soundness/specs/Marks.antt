@@ -1,5 +1,5 @@
 -- The codels that a pause leads to, marked in one pass over the edges.
-use Rattle.std.specs.Prelude.{ℕ, zero, suc, List, set, replicate}
+use Rattle.std.specs.Prelude.{ℕ, zero, suc, Bool, true, false, List, set, replicate}
 use Rattle.model.specs.Limits.{most_codels}
 use Rattle.model.specs.Tables.{Table}
 use Rattle.model.specs.declared.Place.{Place}
@@ -7,11 +7,11 @@ use Rattle.model.specs.declared.Place.TheVariants.{Ether, Codel}
 use Rattle.prepared.specs.Prepared.{pause_of}
 
 -- a place marked, where it is a codel
-abbrev pub mark_at : Place → List ℕ → List ℕ
+abbrev pub mark_at : Place → List Bool → List Bool
 mark_at Ether l = l
-mark_at (Codel c) l = set l c 1
+mark_at (Codel c) l = set l c true
 
--- the pause targets of the first n edges marked with 1, all else 0
-unfoldable pub pause_marks : Table → ℕ → List ℕ
-pause_marks K zero = replicate most_codels 0
+-- the pause targets of the first n edges marked
+unfoldable pub pause_marks : Table → ℕ → List Bool
+pause_marks K zero = replicate most_codels false
 pause_marks K (suc n) = mark_at (pause_of (K.edge n)) (pause_marks K n)

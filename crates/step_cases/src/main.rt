@@ -3,12 +3,10 @@
 // number, open date, missed and longest.
 #![tactic(auto)]
 
-ghost use Rattle.std.specs.Prelude.{◌<◌, ◌≤◌, length};
-
 use model::State;
 use std::io;
 use std::io::Write;
-use table::Table;
+use table::{Refused, Table};
 
 fn say<W: Write>(to: &mut W, words: &[u8]) -> io::Result<()> {
     to.write_all(words)
@@ -31,30 +29,15 @@ fn say_state<W: Write>(to: &mut W, s: State) -> io::Result<()> {
     say(to, b"\n")
 }
 
-// Where the line at a place ends, its newline with it.
-fn line_end(log: &[u8], at: usize) -> usize
-    requires { at < length log.now }
-    ensures { (at < result) × (result ≤ length log.now) }
-{
-    let e = text::next_byte(log, at, text::NEWLINE);
-    if e < log.len() {
-        return e + 1;
-    }
-    log.len()
-}
-
 // Gives the lines of a log to `step`, one after another, and says what comes of them.
 fn show<W: Write>(to: &mut W, note: &[u8], t: Table, start: State, log: &[u8]) -> io::Result<()> {
     say(to, note)?;
     say(to, b":")?;
     let mut s = start;
-    let mut at = 0;
-    while at < log.len() {
-        let end = line_end(log, at);
-        let r = stepping::step(t, s, &log[at..end]);
+    for line in log.split_inclusive(|b| *b == text::NEWLINE) {
+        let r = stepping::step(t, s, line);
         say_number(to, r.number)?;
         s = r.state;
-        at = end;
     }
     say_state(to, s)
 }
@@ -156,8 +139,25 @@ fn show_tables<W: Write>(to: &mut W, t: Table, s: State) -> io::Result<()> {
     show(to, b"no edge", u, s, b"no step\n")
 }
 
+// Shows the cases of the three tables. A text that is no table would leave them all out.
+fn show_all<W: Write>(
+    to: &mut W,
+    k: Result<Table, Refused>,
+    m: Result<Table, Refused>,
+    late: Result<Table, Refused>,
+) -> io::Result<()> {
+    let (Ok(k), Ok(m), Ok(late)) = (k, m, late) else {
+        return Ok(());
+    };
+    let s = engine::fresh_going().state;
+    show_k(to, k, s)?;
+    show_m(to, m, s)?;
+    show_given(to, k, s)?;
+    show_late(to, late, s)?;
+    show_tables(to, k, s)
+}
+
 fn main(rt: HostRuntime) -> io::Result<()> {
-    let mut out = rt.stdout();
     let k = table::read_table(
         b"task\t10\t5\nact\t0\ncodel\t0\tstart\t20\nedge\t0\tether\trun\nend\t4\n",
     );
@@ -167,11 +167,5 @@ fn main(rt: HostRuntime) -> io::Result<()> {
     let late = table::read_table(
         b"task\t1\t5\nact\t0\ncodel\t0\tstart\t20\nedge\t0\tether\trun\nend\t4\n",
     );
-    let g = engine::fresh_going();
-    let s = g.state;
-    show_k(&mut out, k.table, s)?;
-    show_m(&mut out, m.table, s)?;
-    show_given(&mut out, k.table, s)?;
-    show_late(&mut out, late.table, s)?;
-    show_tables(&mut out, k.table, s)
+    show_all(&mut rt.stdout(), k, m, late)
 }

@@ -16,15 +16,13 @@ use Rattle.model.specs.Rules.{refusal, next}
 use Rattle.model.specs.Cycles.{Verdict, none, kept, dropped, verdict}
 use Rattle.model.specs.declared.State.{State}
 use Rattle.model.specs.declared.Step.{Step}
-use Rattle.model.specs.declared.Line.{Line}
-use Rattle.model.specs.declared.Line.TheVariants.{Is, Bad}
+use Rattle.std.specs.Prelude.{Option, Some, None, Result, Ok, Err}
 use Rattle.logs.specs.Lines.{set_digits, read_line}
 use Rattle.logs.proofs.Bounds.{read_line_bounds}
 use Rattle.table.specs.Checks.{says, check_table}
 use Rattle.table.specs.Tables.{table_of}
 use Rattle.table.specs.declared.Table as rows
-use Rattle.table.specs.declared.Read.{Read}
-use Rattle.table.specs.declared.Answer.TheVariants as answer
+use Rattle.table.specs.declared.fault.Refused as fault
 use Rattle.logs.proofs.Shapes.{no_step_lem}
 use Rattle.report.specs.Rows.{cycle_of, cycle_text}
 use Rattle.tally.specs.Tallies.{tallied, no_tally, Roomy}
@@ -71,7 +69,7 @@ on_verdict_lem dropped s w c room rest go e = rw (e room)
 
 module _ (K : Table) (s : State) (c : Tally) (room : ℕ) (x : Step) where
   on_step_lem : (here rest : List (List ℕ)) (go : State → Tally → ℕ → Played) → ((w : State) (d : Tally) (n : ℕ) → go w d n ≡ stopped w d End rest)
-      → answer_of s (on_step K s c room x here rest go) ≡ line_stepped K s (Is x)
+      → answer_of s (on_step K s c room x here rest go) ≡ line_stepped K s (Some x)
   on_step_lem here rest go e =
       let w = next K s x in
       let d = tallied K s x c in
@@ -80,27 +78,27 @@ module _ (K : Table) (s : State) (c : Tally) (room : ℕ) (x : Step) where
       (λ h. rw h)
 
   -- a line that reads as a step is the only one
-  one_line : (l : List ℕ) → read_line set_digits l ≡ Is x → answer_of s (paused K s c room (pieces l 0)) ≡ line_stepped K s (Is x)
+  one_line : (l : List ℕ) → read_line set_digits l ≡ Some x → answer_of s (paused K s c room (pieces l 0)) ≡ line_stepped K s (Some x)
   unfolding read_line
   one_line l h =
       let t = picked (eqb (first_at l 0 10 + 1) (length l)) no_step_lem h in
       let n : first_at l 0 10 + 1 ≡ length l = eqb-true _ _ t.0 in
       let m : length l - 1 ≡ first_at l 0 10 - 0 = omega arith in
       let k : first_at l 0 10 ≡ length l → ⊥ = λ z. omega arith in
-      let q : line_at l 0 (first_at l 0 10) ≡ Is x = rw (ne_eqb _ _ k) (rw m at t.1) in
+      let q : line_at l 0 (first_at l 0 10) ≡ Some x = rw (ne_eqb _ _ k) (rw m at t.1) in
       rw (at_step K s c room l 0 (first_at l 0 10) (omega arith) refl x q)
       (on_step_lem (pieces l 0) (pieces l (first_at l 0 10 + 1)) _ (λ w d n. at_end_lem K w d n l (first_at l 0 10 + 1) (omega arith)))
 
 -- each count has room for such a line
-pub line_roomy : (s : State) (g : Going) (l : List ℕ) (y : Line) (x : Step) → g ≡ going_from s → y ≡ read_line set_digits l → y ≡ Is x → Roomy g.tally (length l - 0)
+pub line_roomy : (s : State) (g : Going) (l : List ℕ) (y : Option Step) (x : Step) → g ≡ going_from s → y ≡ read_line set_digits l → y ≡ Some x → Roomy g.tally (length l - 0)
 line_roomy s g l y x f e h = roomy s g f (length l - 0) (omega (arith, (read_line_bounds set_digits l x (sym e ∙ h)).0))
 
 -- the answers on a line
-module _ (K : Table) (s : State) (l : List ℕ) (y : Line) (e : y ≡ read_line set_digits l) where
-  pub line_bad : y ≡ Bad → record { number = 11; state = s } ≡ line_stepped K s (read_line set_digits l)
+module _ (K : Table) (s : State) (l : List ℕ) (y : Option Step) (e : y ≡ read_line set_digits l) where
+  pub line_bad : y ≡ None → record { number = 11; state = s } ≡ line_stepped K s (read_line set_digits l)
   line_bad h = rw (← e, h)
 
-  module _ (x : Step) (h : y ≡ Is x) (g : Going) (f : g ≡ going_from s) (buf : List ℕ) (place : ℕ) (r : Ran) (after : List ℕ) (R : Pauses K l 0 g buf place r after) where
+  module _ (x : Step) (h : y ≡ Some x) (g : Going) (f : g ≡ going_from s) (buf : List ℕ) (place : ℕ) (r : Ran) (after : List ℕ) (R : Pauses K l 0 g buf place r after) where
     ran : answer_on r.stop s r.going.state ≡ line_stepped K s (read_line set_digits l)
     ran = ap (answer_of s) R.paused ∙ rw (f, ← e, h) (one_line K s no_tally (length buf - place) x l (sym e ∙ h))
 
@@ -111,12 +109,12 @@ module _ (K : Table) (s : State) (l : List ℕ) (y : Line) (e : y ≡ read_line 
     line_accepted p = goes_on_lem r.stop p s r.going.state ∙ ran
 
 -- and on a table and a state that may be refused
-module _ (t : rows.Table) (s : State) (l : List ℕ) (q : Read) (e : says q ≡ check_table t) where
-  pub table_refused : (n k : ℕ) → q.answer ≡ answer.Refused n k → record { number = 19; state = s } ≡ stepped t s l
+module _ (t : rows.Table) (s : State) (l : List ℕ) (q : Result rows.Table fault.Refused) (e : says q ≡ check_table t) where
+  pub table_refused : (r : fault.Refused) → q ≡ Err r → record { number = 19; state = s } ≡ stepped t s l
   unfolding stepped
-  table_refused n k h = rw (← e, h)
+  table_refused r h = rw (← e, h)
 
-  module _ (a : q.answer ≡ answer.Fine) (K : Table) (i : K ≡ table_of t) (b : Bool) (f : b ≡ sound K s) where
+  module _ (u : rows.Table) (a : q ≡ Ok u) (K : Table) (i : K ≡ table_of t) (b : Bool) (f : b ≡ sound K s) where
     pub state_unsound : not b ≡ true → record { number = 19; state = s } ≡ stepped t s l
     unfolding stepped
     state_unsound h = rw (← e, a, ← i, ← f, not-true b h)

@@ -4,14 +4,16 @@
 ghost use Rattle.std.specs.Prelude.{◌≡◌, T};
 ghost use Rattle.model.specs.Sound.{sound};
 ghost use Rattle.logs.specs.Lines.{set_digits, read_line};
-ghost use Rattle.prepared.specs.Prepared.{table_in, Prepared};
+ghost use Rattle.prepared.specs.Held.{held};
 ghost use Rattle.stepping.specs.Stepping.{line_stepped, stepped};
 
 use engine::Stop;
-use model::{Line, State};
-use table::{Answer, Table};
+use model::State;
+use prepared::Component;
+use table::Table;
 
-// A step's refusal, 0 for none, and the state behind it.
+// A step's refusal, 0 for none, and the state behind it. It is no Result, since document 01 promises both: "A refusal returns the number and the
+// state as it came."
 #[derive(Clone, Copy)]
 pub struct Stepped {
     pub number: u64,
@@ -19,30 +21,24 @@ pub struct Stepped {
 }
 
 // A line's step on a sound state: a run over that one line, with no room for the row of a cycle that it keeps. "A refusal returns the number and the state as it came."
-fn step_line(rows: &[u32], index: &[u32], s: State, line: &[u8]) -> Stepped
-    requires { Prepared rows.now index.now × T (sound (table_in rows.now index.now) s) }
-    ensures { result ≡ line_stepped (table_in rows.now index.now) s (read_line set_digits line.now) }
+fn step_line(component: &Component, s: State, line: &[u8]) -> Stepped
+    requires { T (sound (held component.now) s) }
+    ensures { result ≡ line_stepped (held component.now) s (read_line set_digits line.now) }
 {
-    let Line::Is(_) = logs::read_line(line, logs::SET_DIGITS) else {
+    let Some(_) = logs::read_line(line, logs::SET_DIGITS) else {
         return Stepped {
             number: 11,
             state: s,
         };
     };
     let mut none = [0u8; 1];
-    let r = engine::run(rows, index, line, 0, engine::going_from(s), &mut none, 0);
-    let stop = r.stop;
-    let going = r.going;
-    let reached = going.state;
-    let Stop::Refused(n) = stop else {
-        return Stepped {
+    let ran = engine::run(component, line, 0, engine::going_from(s), &mut none, 0);
+    match ran.stop {
+        Stop::Refused(number) => Stepped { number, state: s },
+        _ => Stepped {
             number: 0,
-            state: reached,
-        };
-    };
-    Stepped {
-        number: n,
-        state: s,
+            state: ran.going.state,
+        },
     }
 }
 
@@ -50,21 +46,18 @@ fn step_line(rows: &[u32], index: &[u32], s: State, line: &[u8]) -> Stepped
 pub fn step(t: Table, s: State, line: &[u8]) -> Stepped
     ensures { result ≡ stepped t s line.now }
 {
-    let checked = table::check_table(t);
-    let verdict = checked.answer;
-    let Answer::Fine = verdict else {
+    let Ok(_) = table::check_table(t) else {
         return Stepped {
             number: 19,
             state: s,
         };
     };
-    let index = preparing::index_of(t);
-    let rows = t.rows;
-    if !soundness::is_sound(&rows, &index, s) {
+    let component = preparing::prepare(t);
+    if !soundness::is_sound(&component, s) {
         return Stepped {
             number: 19,
             state: s,
         };
     }
-    step_line(&rows, &index, s, line)
+    step_line(&component, s, line)
 }

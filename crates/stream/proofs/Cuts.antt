@@ -3,6 +3,7 @@ use Prim.Native.Nat.{ℕ, zero, suc, ◌+◌, ◌-◌, ◌≤◌, ◌<◌, min}
 use mathlib.Core.Path.{◌≡◌, refl, sym, ap, ◌∙◌}
 use mathlib.Core.List.{List, [], ◌∷◌, ◌++◌}
 use mathlib.Core.Bool.{Bool, true, false}
+use mathlib.Core.Logic.{◌⊎◌, inl, inr}
 use native.Mathlib.Omega.{arith}
 use lib.ListN.{length, drop, take, drop_of_length-le, length-take, length-append}
 use lib.Seq.{take_all, take-append-le, take-append-add}
@@ -12,14 +13,9 @@ use Rattle.text.specs.Parts.{pick, split_on, parts_from, first_at}
 use Rattle.text.proofs.Picks.{cases, order, false_true}
 use Rattle.text.proofs.Parts.{parts_cut, parts_none, parts_all, cut_length}
 use Rattle.text.proofs.Seeking.{part_starts}
-use Rattle.text.proofs.Alike.{same_short}
 use Rattle.table.specs.Texts.{longest}
-use Rattle.stream.specs.Cut.{end_mark, is_end, end_in, cut_of, cut_known}
+use Rattle.stream.specs.Cut.{is_end, end_in, cut_of, cut_known}
 use Rattle.stream.proofs.Pieces.{followed, followed_none, split_append}
-
--- fewer than four bytes are no mark
-pub end_short : (p : List ℕ) → length p < 4 → false ≡ is_end p
-end_short p h = same_short (take 4 p) end_mark (λ e. omega (arith, length-take 4 p))
 
 -- looking from the start of the text
 pub end_start : (s : List ℕ) (most : ℕ) → end_in 0 (parts_from 10 s 0) most ≡ end_in 0 (split_on 10 s) most
@@ -138,14 +134,11 @@ module _ (s : List ℕ) where
   unknown_few false e = (refl, order longest (length s) (λ h. absurd (false_true (rw (lt-ltb _ _ h) at (sym e)))) (λ h. h))
 
   -- whether it is known, by the code's tests
-  pub known_ended : (ended : Bool) → ended ≡ true → true ≡ cut_known ended s
+  pub known_soon : (ended : Bool) → (ended ≡ true) ⊎ ((ended ≡ false) × (longest < length s)) → (t : Bool) → t ≡ true → t ≡ cut_known ended s
   unfolding cut_known
-  known_ended ended e = rw e
+  known_soon ended (inl e) t y = rw e y
+  known_soon ended (inr e) t y = rw (e.0, lt-ltb _ _ e.1) y
 
-  pub known_long : (ended : Bool) → ended ≡ false → longest < length s → true ≡ cut_known ended s
+  pub known_found : (ended : Bool) → (ended ≡ false) × (length s ≤ longest) → (r : ℕ) → r ≡ end_in 0 (split_on 10 s) 0 → ltb 0 r ≡ cut_known ended s
   unfolding cut_known
-  known_long ended e h = rw (e, lt-ltb _ _ h)
-
-  pub known_found : (ended : Bool) → ended ≡ false → length s ≤ longest → (r : ℕ) → r ≡ end_in 0 (split_on 10 s) 0 → ltb 0 r ≡ cut_known ended s
-  unfolding cut_known
-  known_found ended e h r q = rw (e, le-ltb _ _ h, q)
+  known_found ended h r q = rw (h.0, le-ltb _ _ h.1, q)

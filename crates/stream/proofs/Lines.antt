@@ -1,5 +1,5 @@
 -- Where the whole lines of a part of a log end: one law for each turn and each answer; and what may follow them.
-use Prim.Native.Nat.{ℕ, zero, suc, ◌-◌, ◌≤◌, ◌<◌}
+use Prim.Native.Nat.{ℕ, zero, suc, ◌+◌, ◌-◌, ◌≤◌, ◌<◌, zero-le}
 use mathlib.Core.Path.{◌≡◌, refl, ap, ◌∙◌}
 use mathlib.Core.List.{List, [], ◌∷◌, ◌++◌}
 use mathlib.Core.Bool.{Bool, true, false}
@@ -25,15 +25,10 @@ unfolding lines_end
 lines_other p b n = rw (last_other p b n, length-append) (rw length-append (omega arith))
 
 -- the last newline, looked for from the end on
-pub lines_start : (s : List ℕ) → lines_end (take (length s) s) ≡ lines_end s
+lines_start : (s : List ℕ) → lines_end (take (length s) s) ≡ lines_end s
 lines_start s = rw (take-length s)
 
 module _ (s : List ℕ) (end r : ℕ) (h : end ≤ length s) (now : lines_end (take end s) ≡ r) where
-  -- there is none
-  pub lines_none : end ≤ 0 → 0 ≡ r
-  unfolding lines_end
-  lines_none l = let e : end ≡ 0 = omega arith in rw e at now
-
   module _ (l : 0 < end) where
     split : lines_end (take (end - 1) s ++ get_or s (end - 1) 0 ∷ []) ≡ r
     split =
@@ -43,15 +38,39 @@ module _ (s : List ℕ) (end r : ℕ) (h : end ≤ length s) (now : lines_end (t
         rw (take-suc s (end - 1) 0 k) at then
 
     -- here it is
-    pub lines_here : get_or s (end - 1) 0 ≡ 10 → end ≡ r
+    lines_here : get_or s (end - 1) 0 ≡ 10 → end ≡ r
     lines_here e =
         let k : length (take (end - 1) s) ≡ end - 1 = omega (arith, length-take (end - 1) s) in
         let u : suc (length (take (end - 1) s)) ≡ r = rw (e, lines_newline (take (end - 1) s)) at split in
         omega arith
 
     -- it is not here
-    pub lines_more : (get_or s (end - 1) 0 ≡ 10 → ⊥) → lines_end (take (end - 1) s) ≡ r
+    lines_more : (get_or s (end - 1) 0 ≡ 10 → ⊥) → lines_end (take (end - 1) s) ≡ r
     lines_more n = rw (lines_other (take (end - 1) s) (get_or s (end - 1) 0) n) at split
+
+-- bytes that are no newline may be left out at the end
+module _ (s : List ℕ) (from : ℕ) (none : (k : ℕ) → from ≤ k → k < length s → get_or s k 0 ≡ 10 → ⊥) where
+  lines_up_to : (n : ℕ) → from + n ≤ length s → lines_end (take (from + n) s) ≡ lines_end s → lines_end (take from s) ≡ lines_end s
+  lines_up_to zero h now = let z : from + 0 ≡ from = omega arith in rw z at now
+  lines_up_to (suc n) h now =
+      let e : from + suc n - 1 ≡ from + n = omega arith in
+      let other : get_or s (from + suc n - 1) 0 ≡ 10 → ⊥ = none (from + suc n - 1) (omega arith) (omega arith) in
+      let less = lines_more s (from + suc n) (lines_end s) h now (omega arith) other in
+      lines_up_to n (omega arith) (rw e at less)
+
+  lines_before : from ≤ length s → lines_end (take from s) ≡ lines_end s
+  lines_before h = let a : from + (length s - from) ≡ length s = omega arith in lines_up_to (length s - from) (omega arith) (rw a (lines_start s))
+
+-- no byte is a newline; the last one is at a place
+pub lines_none : (s : List ℕ) → ((k : ℕ) → k < length s → get_or s k 0 ≡ 10 → ⊥) → 0 ≡ lines_end s
+unfolding lines_end
+lines_none s none = lines_before s 0 (λ k _. none k) zero-le
+
+pub lines_last : (s : List ℕ) (last : ℕ) → last < length s → get_or s last 0 ≡ 10 → ((k : ℕ) → last < k → k < length s → get_or s k 0 ≡ 10 → ⊥) → last + 1 ≡ lines_end s
+lines_last s last h e none =
+    let a : last + 1 - 1 ≡ last = omega arith in
+    let now = lines_before s (last + 1) (λ k l. none k (omega arith)) (omega arith) in
+    lines_here s (last + 1) (lines_end s) (omega arith) now (omega arith) (rw a e)
 
 module _ (s : List ℕ) (end : ℕ) (e : end ≡ lines_end s) where
   pub lines_within : end ≤ length s
@@ -75,13 +94,6 @@ whole_within s = cases (ltb (length s - lines_end s) longest_row) (λ y. rw y (l
 pub chunk_within : (ended : Bool) (s : List ℕ) (r : ℕ) → r ≡ chunk_end ended s → r ≤ length s
 chunk_within true s r e = omega arith
 chunk_within false s r e = omega (arith, whole_within s)
-
--- what is taken now, by the code's test
-pub chunk_all : (ended : Bool) (s : List ℕ) → ended ≡ true → length s ≡ chunk_end ended s
-chunk_all ended s e = rw e
-
-pub chunk_lines : (ended : Bool) (s : List ℕ) (r : ℕ) → ended ≡ false → r ≡ whole_lines s → r ≡ chunk_end ended s
-chunk_lines ended s r e q = rw e q
 
 -- no line of these pieces changes what it says, whatever follows: nothing stands behind the last newline, or what is too long for a line
 abbrev pub Settled : List (List ℕ) → Type 0

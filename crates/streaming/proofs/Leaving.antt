@@ -7,6 +7,7 @@ use native.Mathlib.Omega.{arith}
 use lib.Dec.{eqb, leb}
 use lib.ListN.{length, length-append}
 use borrow.Author.Tests.{eqb-true}
+use Rattle.std.specs.Prelude.{Option, Some, None}
 use Rattle.text.specs.Parts.{pick, split_on, join_on}
 use Rattle.text.proofs.Picks.{cases}
 use Rattle.text.proofs.Parts.{join_split}
@@ -18,8 +19,6 @@ use Rattle.model.specs.Cycles.{Verdict, none, kept, dropped, verdict, opens, dro
 use Rattle.model.specs.declared.State.{State}
 use Rattle.model.specs.declared.Step.{Step}
 use Rattle.model.specs.declared.Step.TheVariants.{Wait, Sm, OfTask, OfAct}
-use Rattle.model.specs.declared.Line.{Line}
-use Rattle.model.specs.declared.Line.TheVariants as line
 use Rattle.model.proofs.Formed.{Formed}
 use Rattle.model.proofs.Soundness.{Sound}
 use Rattle.model.proofs.StepsKeep.{step_keeps}
@@ -130,9 +129,9 @@ module _ (K : Table) (F : Formed K) (R : RowLaws K) where
       (λ a. rw a (S, grown_none (suc (length p)) c))))
 
   -- a line of p's bytes and its newline
-  on_line_lem : (l : Line) (m : ℕ) (s : State) (c : Tally) (room : ℕ) (p : List ℕ) (here rest : List (List ℕ)) (go : State → Tally → ℕ → Played) → Sound K s
+  on_line_lem : (l : Option Step) (m : ℕ) (s : State) (c : Tally) (room : ℕ) (p : List ℕ) (here rest : List (List ℕ)) (go : State → Tally → ℕ → Played) → Sound K s
       → ((w : State) (d : Tally) (k : ℕ) → Sound K w → Leaves K m d (go w d k)) → Leaves K (length p + suc m) c (on_line K s c room p l here rest go)
-  on_line_lem line.Bad m s c room p here rest go S h =
+  on_line_lem None m s c room p here rest go S h =
       let u = resumed K s c p in
       let r = row_leaves s S c p in
       cases (begins_row p)
@@ -141,7 +140,7 @@ module _ (K : Table) (F : Formed K) (R : RowLaws K) where
       (λ y. rw y (leaves_more r.1 (h u.state u.tally room r.0)))
       (λ y. rw y (record { sound = S; grown = grown_none (length p + suc m) c; whole = refl }))))
       (λ b. rw b (record { sound = S; grown = grown_none (length p + suc m) c; whole = refl }))
-  on_line_lem (line.Is x) m s c room p here rest go S h =
+  on_line_lem (Some x) m s c room p here rest go S h =
       cases (accepted (refusal K s x))
       (λ y.
       let S' = step_keeps K F s S x (eqb-true _ _ y) in

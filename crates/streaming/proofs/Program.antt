@@ -7,12 +7,13 @@ use mathlib.Core.Path.{◌≡◌, refl, sym, ap, ◌∙◌}
 use native.Mathlib.Omega.{arith}
 use lib.Dec.{T}
 use lib.ListN.{length, take, drop}
+use Rattle.std.specs.Prelude.{Some, None}
 use Rattle.text.specs.Parts.{pick}
 use Rattle.text.proofs.Picks.{false_true}
 use Rattle.model.specs.Tables.{Table}
 use Rattle.model.specs.States.{fresh}
 use Rattle.table.specs.Tables.{table_of}
-use Rattle.table.specs.Checks.{Said}
+use Rattle.table.specs.Checks.{Said, accepts}
 use Rattle.table.specs.Texts.{longest, is_empty, read_table}
 use Rattle.table.specs.declared.Table as rows
 use Rattle.prepared.specs.Prepared.{table_in, Prepared}
@@ -24,6 +25,7 @@ use Rattle.stream.specs.Cut.{cut_of, cut_known}
 use Rattle.judging.specs.Report.{input_report}
 use Rattle.streaming.specs.Turns.{at_log, over, Telling, on_log, opening, on_table, on_input, told_by, joined, most_block, Short, most_told}
 use Rattle.streaming.specs.Lent.{Resumes, Judged, Opens}
+use Rattle.streaming.proofs.Opening.{accepted_some, accepted_none}
 use Rattle.streaming.specs.declared.Turn.{Turn}
 use Rattle.streaming.specs.declared.Opened.{Opened}
 use Rattle.streaming.proofs.Turning.{fresh_resumes, turn_resumes}
@@ -134,24 +136,25 @@ module _ (room : ℕ) (m : most_told (longest + most_block) ≤ room) (hand : Li
 
   module _ {block out : List ℕ} {r : Opened} {rest after : List ℕ} (h : length hand ≤ length block) (n : 202 ≤ length out) (O : Opens hand block out r rest after) where
     -- a refused table: what is told of it is all
-    pub refused_written : r.fine ≡ false
+    pub refused_written : r.table ≡ None
         → take r.told after ≡ input_report (hand ++ joined bs)
     refused_written f =
-        (opened_turn hand block out h n O).0 ∙ table_refused room ended (table_read hand).table (drop (cut_of hand) hand) bs (table_read hand).numbers (sym O.fine ∙ f)
+        (opened_turn hand block out h n O).0 ∙ table_refused room ended (table_read hand).table (drop (cut_of hand) hand) bs (table_read hand).numbers (accepted_none (table_read hand) (sym O.table ∙ f))
         ∙ ap (λ t. told_from room ended t bs) (sym input_is) ∙ whole_told
 
     -- an accepted table: what is told of it, and then of the log
-    pub fine_written : r.fine ≡ true → {rows index : List ℕ} → Prepared rows index → table_in rows index ≡ table_of r.table
+    pub fine_written : {t : rows.Table} → r.table ≡ Some t → {rows index : List ℕ} → Prepared rows index → table_in rows index ≡ table_of t
         → {g : Going} → g ≡ fresh_going → {w : List ℕ} → Writes rows index room g (take r.held rest) ended bs w
         → take r.told after ++ w ≡ input_report (hand ++ joined bs)
     unfolding fresh_going
-    fine_written f {rows} {index} P e {g} q {w} W =
+    fine_written {t} f {rows} {index} P e {g} q {w} W =
+        let a : table_read hand ≡ accepts t = accepted_some (table_read hand) t (sym O.table ∙ f) in
         let u = opened_turn hand block out h n O in
         let log : w ≡ told_from room ended (on_log room (table_of (table_read hand).table) fresh no_tally ended (drop (cut_of hand) hand)) bs =
         log_written P room W (fresh_resumes (table_in rows index) g q)
         ∙ ap (λ x. told_from room ended (on_log room (table_in rows index) x.state x.tally ended (take r.held rest)) bs) q
-        ∙ ap (λ K. told_from room ended (on_log room K fresh no_tally ended (take r.held rest)) bs) (e ∙ ap table_of O.table)
+        ∙ ap (λ K. told_from room ended (on_log room K fresh no_tally ended (take r.held rest)) bs) (e ∙ sym (ap (λ (x : Said). table_of x.table) a))
         ∙ ap (λ b. told_from room ended (on_log room (table_of (table_read hand).table) fresh no_tally ended b) bs) u.1 in
         ap (λ b. b ++ w) u.0 ∙ ap (λ b. opening (table_read hand).numbers ++ b) log
-        ∙ table_fine room ended (table_read hand).table (drop (cut_of hand) hand) bs (table_read hand).numbers (sym O.fine ∙ f)
+        ∙ table_fine room ended (table_read hand).table (drop (cut_of hand) hand) bs (table_read hand).numbers (ap (λ (x : Said). is_empty x.numbers) a)
         ∙ ap (λ t. told_from room ended t bs) (sym input_is) ∙ whole_told

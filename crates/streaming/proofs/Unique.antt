@@ -32,12 +32,10 @@ pub open_table_unique : (hand block out : List ℕ) {r₁ r₂ : Opened} {b₁ b
 open_table_unique hand block out {r₁} {r₂} j k =
     let t = put_unique j.told k.told in
     let h = put_unique j.held k.held in
-    let a : r₁.table ≡ r₂.table = j.table ∙ sym k.table in
-    let f : r₁.fine ≡ r₂.fine = j.fine ∙ sym k.fine in (
-      ap (λ x. record { table = x; fine = r₁.fine; told = r₁.told; held = r₁.held }) a
-          ∙ ap (λ x. record { table = r₂.table; fine = x; told = r₁.told; held = r₁.held }) f
-          ∙ ap (λ x. record { table = r₂.table; fine = r₂.fine; told = x; held = r₁.held }) t.0
-          ∙ ap (λ x. record { table = r₂.table; fine = r₂.fine; told = r₂.told; held = x }) h.0,
+    let a : r₁.table ≡ r₂.table = j.table ∙ sym k.table in (
+      ap (λ x. record { table = x; told = r₁.told; held = r₁.held }) a
+          ∙ ap (λ x. record { table = r₂.table; told = x; held = r₁.held }) t.0
+          ∙ ap (λ x. record { table = r₂.table; told = r₂.told; held = x }) h.0,
       h.1,
       t.1,
     )

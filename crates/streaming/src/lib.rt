@@ -3,21 +3,20 @@
 
 ghost use Rattle.std.specs.Prelude.{◌≤◌, length, take, ◌≡◌};
 ghost use Rattle.text.specs.Put.{Put};
-ghost use Rattle.table.specs.Checks.{numbers_of};
-ghost use Rattle.table.specs.Texts.{is_empty};
-ghost use Rattle.prepared.specs.Prepared.{table_in, Prepared};
+ghost use Rattle.table.specs.Checks.{says};
+ghost use Rattle.prepared.specs.Held.{held};
 ghost use Rattle.tally.specs.Tallies.{most_count, lines_of, Roomy};
 ghost use Rattle.streaming.specs.Turns.{is_over, end_text, opening, most_told};
 ghost use Rattle.streaming.specs.Lent.{Resumes, Judged, Opens};
 
 use engine::{Going, Stop};
-use table::{Answer, Table};
+use prepared::Component;
+use table::{Refused, Table};
 
-// A table that was read: its rows, whether it is accepted, how many bytes are told, and how many of the log's are held.
+// A table that was read, if it is accepted, how many bytes are told, and how many of the log's are held.
 #[derive(Clone, Copy)]
 pub struct Opened {
-    pub table: Table,
-    pub fine: bool,
+    pub table: Option<Table>,
     pub told: usize,
     pub held: usize,
 }
@@ -32,22 +31,12 @@ pub struct Turn {
 }
 
 // Writes what is told of a table: the header, or the report on a refused one.
-fn put_opening(out: &mut [u8], answer: Answer) -> usize
-    ensures { Put out.old 0 (opening (numbers_of answer)) result out.new }
+fn put_opening(out: &mut [u8], read: &Result<Table, Refused>) -> usize
+    ensures { Put out.old 0 (opening (says read.now).numbers) result out.new }
 {
-    match answer {
-        Answer::Fine => report::put_head(out),
-        Answer::Refused(n, line) => judging::put_refused(out, n, line),
-    }
-}
-
-// Is a table accepted?
-fn is_fine(answer: Answer) -> bool
-    ensures { result ≡ is_empty (numbers_of answer) }
-{
-    match answer {
-        Answer::Fine => true,
-        Answer::Refused(_, _) => false,
+    match read {
+        Ok(_) => report::put_head(out),
+        Err(refused) => judging::put_refused(out, refused.fault.number(), refused.line),
     }
 }
 
@@ -59,15 +48,12 @@ pub fn open_table(block: &mut [u8], have: usize, out: &mut [u8]) -> Opened
 {
     let cut = stream::cut_at(&block[..have]);
     let read = table::read_table(&block[..cut]);
-    let answer = read.answer;
-    let t = read.table;
-    let told = put_opening(out, answer);
+    let told = put_opening(out, &read);
     let held = stream::to_front(block, cut, have);
     Opened {
-        table: t,
-        fine: is_fine(answer),
-        told: told,
-        held: held,
+        table: read.ok(),
+        told,
+        held,
     }
 }
 
@@ -76,58 +62,51 @@ fn is_over(ended: bool, stop: Stop) -> bool
     ensures { result ≡ is_over ended stop }
 {
     match stop {
-        Stop::End => ended,
         Stop::Refused(_) => true,
-        Stop::Closed(_) => ended,
-        Stop::Row => ended,
+        Stop::End | Stop::Closed(_) | Stop::Row => ended,
     }
 }
 
 // Writes the `sum` row where the judging ends.
 fn put_end(
-    rows: &[u32],
-    index: &[u32],
+    component: &Component,
     out: &mut [u8],
     at: usize,
     g: Going,
     stop: Stop,
     done: bool,
 ) -> usize
-    requires { Prepared rows.now index.now × (lines_of g.tally ≤ most_count) }
-    ensures { Put out.old at (end_text (table_in rows.now index.now) g.state g.tally stop done) result out.new }
+    requires { (lines_of g.tally ≤ most_count) }
+    ensures { Put out.old at (end_text (held component.now) g.state g.tally stop done) result out.new }
 {
     if !done {
         return at;
     }
-    judging::put_sum(rows, index, out, at, g, judging::refusal_of(stop))
+    judging::put_sum(component, out, at, g, judging::refusal_of(stop))
 }
 
 // Judges the whole lines of the log's bytes at the front of the block, all of them where the input has ended, writes what is told of them,
 // and moves the bytes left to the front.
 pub fn judge_block(
-    rows: &[u32],
-    index: &[u32],
+    component: &Component,
     block: &mut [u8],
     have: usize,
     ended: bool,
     g: Going,
     out: &mut [u8],
 ) -> Turn
-    requires { Prepared rows.now index.now × Resumes (table_in rows.now index.now) g × Roomy g.tally have × (have ≤ length block.old) × (most_told have ≤ length out.old) }
-    ensures { Judged (table_in rows.now index.now) g ended block.old have out.old result block.new out.new }
+    requires { Resumes (held component.now) g × Roomy g.tally have × (have ≤ length block.old) × (most_told have ≤ length out.old) }
+    ensures { Judged (held component.now) g ended block.old have out.old result block.new out.new }
 {
     let end = stream::chunk_end(&block[..have], ended);
-    let ran = playing::play(rows, index, &block[..end], 0, g, out, 0);
-    let going = ran.going;
-    let filled = ran.filled;
-    let stop = ran.stop;
-    let over = is_over(ended, stop);
-    let told = put_end(rows, index, out, filled, going, stop, over);
+    let ran = playing::play(component, &block[..end], 0, g, out, 0);
+    let over = is_over(ended, ran.stop);
+    let told = put_end(component, out, ran.filled, ran.going, ran.stop, over);
     let held = stream::to_front(block, end, have);
     Turn {
-        going: going,
-        told: told,
-        held: held,
-        over: over,
+        going: ran.going,
+        told,
+        held,
+        over,
     }
 }

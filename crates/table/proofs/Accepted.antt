@@ -19,7 +19,8 @@ use Rattle.table.specs.Checks.{in_place, fault_at, kind_fault, row_fault}
 use Rattle.table.specs.declared.Table.{Table}
 use Rattle.table.proofs.Tests.{both, needed, each_at}
 use Rattle.table.proofs.Faults.{task_passes, act_passes, codel_passes, edge_passes, mutex_passes}
-use Rattle.table.proofs.Fields.{row_by, by_kind, three, value_at, cap_of, limit_of, within, Worded, Limited}
+use Rattle.table.specs.Worded.{value_at, Worded}
+use Rattle.table.proofs.Fields.{row_by, by_kind, three, limit_of, within, Limited}
 
 -- a table that is being built
 pub record Sized (t : Table) : Type 0 where
@@ -70,7 +71,7 @@ module _ (t : Table) (counted : Counted t.counts) where
       (λ e. let l : ltb v K.ncodels ≡ true = rw e at h in below 3 1 v (codel v l))
 
   shows : (r : Row) → r.kind < stored_kinds → Shows r
-  unfolding kind_fault fault_at table_of most_of cap_of limit_of form_of
+  unfolding kind_fault fault_at table_of most_of limit_of form_of
   shows =
       by_kind Shows
       (λ a b c w f.

@@ -13,7 +13,8 @@ use Rattle.table.specs.Tables.{empty_table, add_row, table_of}
 use Rattle.table.specs.Checks.{given_fault, Said, accepts, refused, on_fault, check_rows, rows_from, kinds_from, rows_of, check_table}
 use Rattle.table.specs.declared.Table.{Table}
 use Rattle.table.proofs.Tests.{needed}
-use Rattle.table.proofs.Fields.{Worded, row_worded}
+use Rattle.table.specs.Worded.{Worded}
+use Rattle.table.proofs.Fields.{row_worded}
 use Rattle.table.proofs.Accepted.{Sized, Follows, accepted}
 use Rattle.table.proofs.Stored.{empty_sized, added_sized}
 use Rattle.table.proofs.RowsOf.{rows_added, rows_empty}

@@ -8,11 +8,14 @@ use native.Mathlib.Omega.{arith}
 use native.Mathlib.Nat.{div-add-mod, mod-lt, zero-lt-suc}
 use lib.ListN.{length, get_or, get_or-replicate}
 use lib.Seq.{ext_get_or}
-use lib.Dec.{ltb, eqb}
+use lib.Dec.{ltb, leb, eqb}
 use borrow.Author.Tests.{lt-ltb, le-ltb, le-leb, eq-eqb, ltb-true, leb-true, eqb-true, eqb-false}
 use Rattle.text.specs.Parts.{pick}
 use Rattle.text.proofs.Picks.{cases, order}
-use Rattle.row.specs.Kinds.{stored_kinds, no_field, a_kind, a_mode, most_of, form_of}
+use Rattle.row.specs.Kinds.{stored_kinds, most_of, form_of}
+use Rattle.std.specs.Prelude.{Option, Some, None}
+use Rattle.row.specs.declared.Form.{Form}
+use Rattle.row.specs.declared.Form.TheVariants as form
 use Rattle.row.specs.declared.Row.{Row}
 use Rattle.model.specs.Tests.{each}
 use Rattle.table.specs.Tables.{slots, empty_table, base_of, slot_of, ether_slot, narrowed, widened, shown, field_of, stored_ok, number_ok, canonical, add_row}
@@ -26,29 +29,34 @@ use Rattle.table.proofs.Grown.{same_counts, same_grown}
 use Rattle.table.proofs.Built.{Built, done, more, built_all, table_whole}
 
 -- a stored number is what is stored of what it says exactly where its field can say it
-module _ (form x : ℕ) where
-  stored_kept : stored_ok form x ≡ true → narrowed (shown form x) ≡ x
-  unfolding stored_ok narrowed shown widened
-  stored_kept h =
-      cases (eqb form no_field) (λ n. let z = eqb-true x 0 (rw n at h) in rw n (omega arith))
-      (λ n. cases (eqb form a_kind) (λ e. let z = ltb-true x 3 (rw (n, e) at h) in rw (n, e) (omega arith))
-      (λ e. cases (eqb form a_mode) (λ f. let z = ltb-true x 2 (rw (n, e, f) at h) in rw (n, e, f) (omega arith))
-      (λ f.
-      let z = leb-true x ether_slot (rw (n, e, f) at h) in
-      cases (eqb x ether_slot)
-      (λ g. let q = eqb-true x ether_slot g in rw (n, e, f, g) (omega arith))
-      (λ g. rw (n, e, f, g) (omega arith)))))
+wide_kept : (x : ℕ) → leb x ether_slot ≡ true → narrowed (widened x) ≡ x
+unfolding narrowed widened
+wide_kept x h =
+    let z = leb-true x ether_slot h in
+    cases (eqb x ether_slot) (λ g. let q = eqb-true x ether_slot g in rw g (omega arith)) (λ g. rw g (omega arith))
 
-  kept_stored : narrowed (shown form x) ≡ x → stored_ok form x ≡ true
-  unfolding stored_ok narrowed shown widened
-  kept_stored h =
-      cases (eqb form no_field) (λ n. let z = rw n at h in rw n (eq-eqb x 0 (omega arith)))
-      (λ n. cases (eqb form a_kind) (λ e. let z = rw (n, e) at h in rw (n, e) (lt-ltb x 3 (omega arith)))
-      (λ e. cases (eqb form a_mode) (λ f. let z = rw (n, e, f) at h in rw (n, e, f) (lt-ltb x 2 (omega arith)))
-      (λ f.
-      cases (eqb x ether_slot)
-      (λ g. let q = eqb-true x ether_slot g in rw (n, e, f) (le-leb x ether_slot (omega arith)))
-      (λ g. let z = rw (n, e, f, g) at h in rw (n, e, f) (le-leb x ether_slot (omega arith))))))
+kept_wide : (x : ℕ) → narrowed (widened x) ≡ x → leb x ether_slot ≡ true
+unfolding narrowed widened
+kept_wide x h =
+    cases (eqb x ether_slot)
+    (λ g. let q = eqb-true x ether_slot g in le-leb x ether_slot (omega arith))
+    (λ g. let z = rw g at h in le-leb x ether_slot (omega arith))
+
+stored_kept : (f : Option Form) (x : ℕ) → stored_ok f x ≡ true → narrowed (shown f x) ≡ x
+unfolding stored_ok narrowed shown
+stored_kept None x h = let z = eqb-true x 0 h in omega arith
+stored_kept (Some form.Number) x h = wide_kept x h
+stored_kept (Some form.Kind) x h = let z = ltb-true x 3 h in omega arith
+stored_kept (Some form.Mode) x h = let z = ltb-true x 2 h in omega arith
+stored_kept (Some form.Target) x h = wide_kept x h
+
+kept_stored : (f : Option Form) (x : ℕ) → narrowed (shown f x) ≡ x → stored_ok f x ≡ true
+unfolding stored_ok narrowed shown
+kept_stored None x h = eq-eqb x 0 (omega arith)
+kept_stored (Some form.Number) x h = kept_wide x h
+kept_stored (Some form.Kind) x h = lt-ltb x 3 (omega arith)
+kept_stored (Some form.Mode) x h = lt-ltb x 2 (omega arith)
+kept_stored (Some form.Target) x h = kept_wide x h
 
 -- number j of row i of kind k
 abbrev number_at : Table → ℕ → ℕ → ℕ → ℕ

@@ -6,15 +6,19 @@ use mathlib.Core.Bool.{Bool, true, false}
 use native.Mathlib.Omega.{arith}
 use lib.ListN.{get_or}
 use lib.Dec.{ltb, leb, eqb}
-use borrow.Author.Tests.{lt-ltb, le-leb, eq-eqb, ne_eqb, ltb-true, leb-true, eqb-true, eqb-false}
+use borrow.Author.Tests.{lt-ltb, le-leb, eq-eqb, ne_eqb, ltb-true, leb-true, eqb-true}
 use Rattle.text.specs.Fields.{ether_value}
 use Rattle.text.proofs.Picks.{cases, order, picked, false_true}
 use Rattle.model.specs.Tests.{◌and◌, ◌or◌, each}
 use Rattle.model.specs.Limits.{most_tasks, most_acts, most_codels, most_ticks}
-use Rattle.row.specs.Kinds.{stored_kinds, end_kind, no_field, a_number, a_kind, a_mode, a_target, most_of, form_of}
+use Rattle.row.specs.Kinds.{stored_kinds, end_kind, most_of, form_of}
 use Rattle.row.specs.Row.{form_ok, row_ok}
+use Rattle.std.specs.Prelude.{Option, Some, None}
+use Rattle.row.specs.declared.Form.{Form}
+use Rattle.row.specs.declared.Form.TheVariants as form
 use Rattle.row.specs.declared.Row.{Row}
 use Rattle.table.specs.Tables.{ether_slot, narrowed, widened, shown, slot_of, field_of, row_of}
+use Rattle.table.specs.Worded.{is_number, cap_of, value_at, Worded}
 use Rattle.table.proofs.Tests.{both, each_at}
 
 -- by the stored kinds
@@ -25,15 +29,6 @@ at_kind P a b c d e (suc (suc zero)) h = c
 at_kind P a b c d e (suc (suc (suc zero))) h = d
 at_kind P a b c d e (suc (suc (suc (suc zero)))) h = e
 at_kind P a b c d e (suc (suc (suc (suc (suc k))))) h = absurd (omega arith)
-
--- by the forms
-by_form : (P : ℕ → Type 0) → P no_field → P a_number → P a_kind → P a_mode → P a_target → (form : ℕ) → form ≤ a_target → P form
-by_form P a b c d e zero h = a
-by_form P a b c d e (suc zero) h = b
-by_form P a b c d e (suc (suc zero)) h = c
-by_form P a b c d e (suc (suc (suc zero))) h = d
-by_form P a b c d e (suc (suc (suc (suc zero)))) h = e
-by_form P a b c d e (suc (suc (suc (suc (suc form))))) h = absurd (omega arith)
 
 -- a row by its numbers
 abbrev pub row_by : ℕ → ℕ → ℕ → ℕ → Row
@@ -55,17 +50,13 @@ three P a b c (suc zero) h = b
 three P a b c (suc (suc zero)) h = c
 three P a b c (suc (suc (suc j))) h = absurd (omega arith)
 
--- a row's field by its number
-abbrev pub value_at : Row → ℕ → ℕ
-value_at r j = get_or (r.a ∷ r.b ∷ r.c ∷ []) j 0
-
--- a form that says a number, or `ether` in its place
-abbrev pub is_number : ℕ → Bool
-is_number form = eqb form a_number or eqb form a_target
-
--- what the values of a form stay below in an accepted row, `ether` apart
-unfoldable pub cap_of : ℕ → ℕ
-cap_of form = get_or (1 ∷ suc most_ticks ∷ 3 ∷ 2 ∷ suc most_ticks ∷ []) form 0
+-- a form that may say `ether`
+abbrev pub is_target : Option Form → Bool
+is_target None = false
+is_target (Some form.Number) = false
+is_target (Some form.Kind) = false
+is_target (Some form.Mode) = false
+is_target (Some form.Target) = true
 
 -- what the values of each field of each kind stay below there, `ether` apart
 unfoldable pub limit_of : ℕ → ℕ → ℕ
@@ -86,92 +77,89 @@ limit_of k j = get_or (task ++ act ++ codel ++ edge ++ mutex) (k * 3 + j) 0
     mutex : List ℕ
     mutex = most_codels ∷ most_codels ∷ 1 ∷ []
 
-abbrev is_ether_at : ℕ → ℕ → Bool
-is_ether_at form v = eqb form a_target and eqb v ether_value
-
 -- a value is within its field's limit
 unfoldable pub within : ℕ → ℕ → ℕ → Bool
-within k j v = ltb v (limit_of k j) or is_ether_at (form_of k j) v
+within k j v = ltb v (limit_of k j) or (is_target (form_of k j) and eqb v ether_value)
 
 -- the limits as the forms have them
-caps : (k : ℕ) → k < stored_kinds → (j : ℕ) → j < 3 → (form_of k j ≤ a_target) × (limit_of k j ≤ cap_of (form_of k j))
-unfolding cap_of limit_of form_of each
+caps : (k : ℕ) → k < stored_kinds → (j : ℕ) → j < 3 → limit_of k j ≤ cap_of (form_of k j)
+unfolding limit_of form_of each
 caps k h j l =
-    let t = each_at 3 (λ i. leb (form_of k i) a_target and leb (limit_of k i) (cap_of (form_of k i)))
-    (each_at stored_kinds (λ m. each 3 (λ i. leb (form_of m i) a_target and leb (limit_of m i) (cap_of (form_of m i)))) refl k h) j l in
-    let b = both (leb (form_of k j) a_target) t in
-    (leb-true _ _ b.0, leb-true _ _ b.1)
+    leb-true _ _ (each_at 3 (λ i. leb (limit_of k i) (cap_of (form_of k i)))
+    (each_at stored_kinds (λ m. each 3 (λ i. leb (limit_of m i) (cap_of (form_of m i)))) refl k h) j l)
 
 -- below its form's cap a value is kept by 32 bits, and can be said
-kept_below : (v form : ℕ) → form ≤ a_target → v < cap_of form → shown form (narrowed v) ≡ v
-unfolding cap_of shown narrowed widened
-kept_below v =
-    by_form (λ form. v < cap_of form → shown form (narrowed v) ≡ v)
-    (λ h. omega arith)
-    number
-    (λ h. omega arith)
-    (λ h. omega arith)
-    number
-  where
-    number : v < suc most_ticks → widened (narrowed v) ≡ v
-    number h =
-        let e : min v ether_slot ≡ v = omega arith in
-        let n : v ≡ ether_slot → ⊥ = λ z. omega arith in
-        rw (e, ne_eqb _ _ n)
+kept_number : (v : ℕ) → v < suc most_ticks → widened (narrowed v) ≡ v
+unfolding widened narrowed
+kept_number v h =
+    let e : min v ether_slot ≡ v = omega arith in
+    let n : v ≡ ether_slot → ⊥ = λ z. omega arith in
+    rw (e, ne_eqb _ _ n)
 
-said_below : (v form : ℕ) → form ≤ a_target → v < cap_of form → form_ok form v ≡ true
-unfolding cap_of form_ok
-said_below v =
-    by_form (λ form. v < cap_of form → form_ok form v ≡ true)
-    (λ h. eq-eqb v 0 (omega arith))
-    (λ h. lt-ltb v ether_value (omega arith))
-    (λ h. lt-ltb v 3 h)
-    (λ h. lt-ltb v 2 h)
-    (λ h. le-leb v ether_value (omega arith))
+kept_below : (f : Option Form) (v : ℕ) → v < cap_of f → shown f (narrowed v) ≡ v
+unfolding shown narrowed
+kept_below None v h = omega arith
+kept_below (Some form.Number) v h = kept_number v h
+kept_below (Some form.Kind) v h = omega arith
+kept_below (Some form.Mode) v h = omega arith
+kept_below (Some form.Target) v h = kept_number v h
+
+said_below : (f : Option Form) (v : ℕ) → v < cap_of f → form_ok f v ≡ true
+unfolding form_ok
+said_below None v h = eq-eqb v 0 (omega arith)
+said_below (Some form.Number) v h = lt-ltb v ether_value (omega arith)
+said_below (Some form.Kind) v h = lt-ltb v 3 h
+said_below (Some form.Mode) v h = lt-ltb v 2 h
+said_below (Some form.Target) v h = le-leb v ether_value (omega arith)
 
 -- it is then below it, or is `ether` in a field that may say so
 pub by_limit : {P : Type 0} (k j v : ℕ) → within k j v ≡ true
-    → (v < limit_of k j → P) → (form_of k j ≡ a_target → v ≡ ether_value → P) → P
+    → (v < limit_of k j → P) → (is_target (form_of k j) ≡ true → v ≡ ether_value → P) → P
 unfolding within
 by_limit k j v h f g =
     cases (ltb v (limit_of k j))
     (λ e. f (ltb-true _ _ e))
     (λ e.
-    let t : is_ether_at (form_of k j) v ≡ true = rw e at h in
-    let b = both (eqb (form_of k j) a_target) t in
-    g (eqb-true _ _ b.0) (eqb-true _ _ b.1))
+    let t : is_target (form_of k j) and eqb v ether_value ≡ true = rw e at h in
+    let b = both (is_target (form_of k j)) t in
+    g b.0 (eqb-true _ _ b.1))
 
 -- in a field that may not name `ether` it is below it
-pub below_limit : (k j v : ℕ) → eqb (form_of k j) a_target ≡ false → within k j v ≡ true → v < limit_of k j
-below_limit k j v n h = by_limit k j v h (λ b. b) (λ f e. absurd (eqb-false _ _ n f))
+pub below_limit : (k j v : ℕ) → is_target (form_of k j) ≡ false → within k j v ≡ true → v < limit_of k j
+below_limit k j v n h = by_limit k j v h (λ b. b) (λ f e. absurd (false_true (sym n ∙ f)))
+
+-- `ether` is kept and can be said where a form may say it
+kept_ether : (f : Option Form) → is_target f ≡ true → shown f (narrowed ether_value) ≡ ether_value
+unfolding shown narrowed widened
+kept_ether None h = absurd (false_true h)
+kept_ether (Some form.Number) h = absurd (false_true h)
+kept_ether (Some form.Kind) h = absurd (false_true h)
+kept_ether (Some form.Mode) h = absurd (false_true h)
+kept_ether (Some form.Target) h = refl
+
+said_ether : (f : Option Form) → is_target f ≡ true → form_ok f ether_value ≡ true
+unfolding form_ok
+said_ether None h = absurd (false_true h)
+said_ether (Some form.Number) h = absurd (false_true h)
+said_ether (Some form.Kind) h = absurd (false_true h)
+said_ether (Some form.Mode) h = absurd (false_true h)
+said_ether (Some form.Target) h = refl
 
 module _ (k : ℕ) (h : k < stored_kinds) (j : ℕ) (l : j < 3) (v : ℕ) (w : within k j v ≡ true) where
   -- 32 bits keep it
   pub kept : shown (form_of k j) (narrowed v) ≡ v
-  unfolding shown narrowed widened
-  kept =
-      let c = caps k h j l in
-      by_limit k j v w (λ b. kept_below v (form_of k j) c.0 (omega arith)) (λ f e. rw (f, e))
+  kept = let c = caps k h j l in by_limit k j v w (λ b. kept_below (form_of k j) v (omega arith)) (λ f e. rw e (kept_ether (form_of k j) f))
 
   -- and a line can say it
   said : form_ok (form_of k j) v ≡ true
-  unfolding form_ok
-  said =
-      let c = caps k h j l in
-      by_limit k j v w (λ b. said_below v (form_of k j) c.0 (omega arith)) (λ f e. rw (f, e))
+  said = let c = caps k h j l in by_limit k j v w (λ b. said_below (form_of k j) v (omega arith)) (λ f e. rw e (said_ether (form_of k j) f))
 
   -- a number is at most the most ticks
-  pub number_low : form_of k j ≡ a_number → v ≤ most_ticks
-  unfolding cap_of
+  pub number_low : form_of k j ≡ Some form.Number → v ≤ most_ticks
   number_low f =
-      let c = (caps k h j l).1 in
+      let c = caps k h j l in
       let m : cap_of (form_of k j) ≡ suc most_ticks = rw f in
-      by_limit k j v w (λ b. omega arith) (λ g e. let z : a_number ≡ a_target = sym f ∙ g in absurd (omega arith))
-
--- a row of a stored kind in which each field without number says one of its words, or nothing where there is none
-pub record Worded (r : Row) : Type 0 where
-  pub kind : r.kind < stored_kinds
-  pub words : (j : ℕ) → j < 3 → is_number (form_of r.kind j) ≡ false → value_at r j < cap_of (form_of r.kind j)
+      by_limit k j v w (λ b. omega arith) (λ g e. absurd (false_true (rw f at g)))
 
 -- a row within its limits
 abbrev pub Limited : Row → Type 0
@@ -199,31 +187,21 @@ ok_limited r h w =
     )
 
 -- what a field without number can say, and what is shown of one, is below its form's cap
-module _ (v form : ℕ) where
-  number_not : {P : Type 0} → true ≡ false → P
-  number_not e = absurd (false_true (sym e))
+said_cap : (f : Option Form) (v : ℕ) → is_number f ≡ false → form_ok f v ≡ true → v < cap_of f
+unfolding form_ok
+said_cap None v n e = let z = eqb-true v 0 e in omega arith
+said_cap (Some form.Number) v n e = absurd (false_true (sym n))
+said_cap (Some form.Kind) v n e = ltb-true v 3 e
+said_cap (Some form.Mode) v n e = ltb-true v 2 e
+said_cap (Some form.Target) v n e = absurd (false_true (sym n))
 
-  said_cap : form ≤ a_target → is_number form ≡ false → form_ok form v ≡ true → v < cap_of form
-  unfolding cap_of form_ok
-  said_cap =
-      by_form (λ f. is_number f ≡ false → form_ok f v ≡ true → v < cap_of f)
-      (λ n e. let z = eqb-true v 0 e in omega arith)
-      (λ n e. number_not n)
-      (λ n e. ltb-true v 3 e)
-      (λ n e. ltb-true v 2 e)
-      (λ n e. number_not n)
-      form
-
-  shown_cap : form ≤ a_target → is_number form ≡ false → (0 < cap_of form) × (shown form v < cap_of form)
-  unfolding cap_of shown
-  shown_cap =
-      by_form (λ f. is_number f ≡ false → (0 < cap_of f) × (shown f v < cap_of f))
-      (λ n. (omega arith, omega arith))
-      (λ n. number_not n)
-      (λ n. (omega arith, omega arith))
-      (λ n. (omega arith, omega arith))
-      (λ n. number_not n)
-      form
+shown_cap : (f : Option Form) (v : ℕ) → is_number f ≡ false → (0 < cap_of f) × (shown f v < cap_of f)
+unfolding shown
+shown_cap None v n = (omega arith, omega arith)
+shown_cap (Some form.Number) v n = absurd (false_true (sym n))
+shown_cap (Some form.Kind) v n = (omega arith, omega arith)
+shown_cap (Some form.Mode) v n = (omega arith, omega arith)
+shown_cap (Some form.Target) v n = absurd (false_true (sym n))
 
 -- a row that a line can say, but for the `end` row, is so worded
 pub ok_worded : (r : Row) → (r.kind ≡ end_kind → ⊥) → row_ok r ≡ true → Worded r
@@ -233,7 +211,7 @@ ok_worded r ne k =
     let h : r.kind < stored_kinds = order r.kind stored_kinds (λ l. l) (λ l. absurd (ne (omega arith))) in
     record {
       kind = h;
-      words = λ j l n. said_cap (value_at r j) (form_of r.kind j) (caps r.kind h j l).0 n (ok_fields r k j l);
+      words = λ j l n. said_cap (form_of r.kind j) (value_at r j) n (ok_fields r k j l);
     }
 
 -- and so is a row of a table
@@ -249,5 +227,5 @@ row_worded rows k i h =
   where
     field : (j : ℕ) → j < 3 → is_number (form_of k j) ≡ false → field_of rows k i j < cap_of (form_of k j)
     field j l n =
-        let t = shown_cap (get_or rows (slot_of k i + j) 0) (form_of k j) (caps k h j l).0 n in
+        let t = shown_cap (form_of k j) (get_or rows (slot_of k i + j) 0) n in
         cases (ltb i (most_of k)) (λ e. rw e t.1) (λ e. rw e t.0)

@@ -6,7 +6,9 @@ use mathlib.Core.Bool.{true}
 use native.Mathlib.Omega.{arith}
 use lib.ListN.{get_or, get_or-replicate}
 use Rattle.text.proofs.Picks.{order}
-use Rattle.row.specs.Kinds.{stored_kinds, most_fields, a_number, most_of, form_of}
+use Rattle.row.specs.Kinds.{stored_kinds, most_fields, most_of, form_of}
+use Rattle.std.specs.Prelude.{Some}
+use Rattle.row.specs.declared.Form.TheVariants as form
 use Rattle.row.specs.declared.Row.{Row}
 use Rattle.model.specs.Limits.{most_ticks}
 use Rattle.model.specs.Rows.{wellformed}
@@ -50,14 +52,14 @@ module _ (t : Table) (w : wellformed (table_of t) ≡ true) (k i : ℕ) (h : k <
   row_room = omega (arith, same_counts _ t (built_all made_of) k h, (built_sized empty_sized made_of).counted.most k h)
 
   -- and it is no larger than any
-  pub number_most : (j : ℕ) → j < most_fields → form_of k j ≡ a_number → field_of t.rows k i j ≤ most_ticks
+  pub number_most : (j : ℕ) → j < most_fields → form_of k j ≡ Some form.Number → field_of t.rows k i j ≤ most_ticks
   number_most =
       let u = (check_table t).table in
       let e = built_all made_of in
       let a : Limited (row_of t.rows k i) =
       subst Limited (sym ((same_grown u t e).rows k i h (omega (arith, same_counts u t e k h))))
       (limited_built made_of limited_empty k i h (omega (arith, same_counts u t e k h))) in
-      three (λ j. form_of k j ≡ a_number → field_of t.rows k i j ≤ most_ticks)
+      three (λ j. form_of k j ≡ Some form.Number → field_of t.rows k i j ≤ most_ticks)
       (λ f. number_low k h 0 (omega arith) _ (a 0 (omega arith)) f)
       (λ f. number_low k h 1 (omega arith) _ (a 1 (omega arith)) f)
       (λ f. number_low k h 2 (omega arith) _ (a 2 (omega arith)) f)

@@ -13,8 +13,7 @@ use Rattle.text.proofs.Picks.{cases, picked}
 use Rattle.row.specs.Kinds.{end_kind, form_of}
 use Rattle.row.specs.Row.{read_row, row_line, form_ok, row_ok}
 use Rattle.row.specs.declared.Row.{Row}
-use Rattle.row.specs.declared.Line.{Line}
-use Rattle.row.specs.declared.Line.TheVariants as line
+use Rattle.std.specs.Prelude.{Option, Some, None}
 use Rattle.model.specs.Rows.{last_fault}
 use Rattle.table.specs.Tables.{add_row, table_of}
 use Rattle.table.specs.Checks.{row_fault, Said, accepts, refused, on_fault, closed}
@@ -27,12 +26,12 @@ use Rattle.table.proofs.Accepted.{Sized, Follows, accepted}
 use Rattle.table.proofs.Built.{Built, done, more, refused_not, no_fault, Whole}
 
 -- a text has at least one line
-record Some (ps : List (List ℕ)) : Type 0 where
+record Lines (ps : List (List ℕ)) : Type 0 where
   first : List ℕ
   rest : List (List ℕ)
   are : ps ≡ first ∷ rest
 
-split_some : (s : List ℕ) → Some (split_on 10 s)
+split_some : (s : List ℕ) → Lines (split_on 10 s)
 split_some [] = record { first = []; rest = []; are = refl }
 split_some (b ∷ bs) =
     cases (eqb b 10)
@@ -40,7 +39,7 @@ split_some (b ∷ bs) =
     (λ e. rw (e, (split_some bs).are) record { first = b ∷ (split_some bs).first; rest = (split_some bs).rest; are = refl })
 
 -- the first of several lines
-abbrev on_line : Table → ℕ → Line → List (List ℕ) → Said
+abbrev on_line : Table → ℕ → Option Row → List (List ℕ) → Said
 on_line t l x ps =
     on_row x
     (λ r. pick (eqb r.kind end_kind) (at_end_row t l r.a ps) (on_fault (row_fault t r) l (read_lines (add_row t r) (l + 1) ps)))
@@ -63,9 +62,9 @@ behind_nothing p [] [] e = refl
 behind_nothing p (x ∷ xs) [] e = absurd (omega arith)
 behind_nothing p q (x ∷ xs) e = absurd (row (read_row q) e)
   where
-    row : (r : Line) → row_behind r ≡ 0 → ⊥
-    row (line.Is r) e = omega arith
-    row line.Bad e = omega arith
+    row : (r : Option Row) → row_behind r ≡ 0 → ⊥
+    row (Some r) e = omega arith
+    row None e = omega arith
 
 -- the `end` row with its count
 end_ok : (n : ℕ) → n < 10000000000 → row_ok (end_row n) ≡ true
@@ -101,11 +100,11 @@ lines_back ((x ∷ xs) ∷ []) t l u s h e = refused_not 1 l u e
 lines_back (p ∷ q ∷ ps) t l u s h e =
     row (read_row p) refl e (λ r f. lines_back (q ∷ ps) (add_row t r) (l + 1) u (added_sized f) (omega arith))
   where
-    row : (x : Line) → read_row p ≡ x → on_line t l x (q ∷ ps) ≡ accepts u
+    row : (x : Option Row) → read_row p ≡ x → on_line t l x (q ∷ ps) ≡ accepts u
         → ((r : Row) → Follows t r → read_lines (add_row t r) (l + 1) (q ∷ ps) ≡ accepts u → Back (add_row t r) (l + 1) (q ∷ ps) u)
         → Back t l (p ∷ q ∷ ps) u
-    row line.Bad x e go = refused_not 1 l u e
-    row (line.Is r) x e go =
+    row None x e go = refused_not 1 l u e
+    row (Some r) x e go =
         let w = row_read p r x in
         cases (eqb r.kind end_kind)
         (λ k.

@@ -23,7 +23,8 @@ use Rattle.table.specs.Checks.{row_fault}
 use Rattle.table.specs.Marks.{task_mark, kind_mark, codel_mark, no_mark, marks_length, mark_of, marked, Marked, Building}
 use Rattle.table.specs.declared.Table.{Table}
 use Rattle.table.proofs.Tests.{both, agree, each_same, some_same, each_not}
-use Rattle.table.proofs.Fields.{row_by, limit_of, below_limit, Worded, Limited}
+use Rattle.table.specs.Worded.{Worded}
+use Rattle.table.proofs.Fields.{row_by, limit_of, below_limit, Limited}
 use Rattle.table.proofs.Accepted.{Sized, Follows, accepted}
 use Rattle.table.proofs.RowsOf.{some_row}
 use Rattle.table.proofs.Stored.{empty_sized, added_sized, place_of, stored, others, count_same, count_other}

@@ -3,9 +3,7 @@ use Prim.Native.Nat.{ℕ, zero, suc, ◌+◌, ◌-◌, ◌≤◌, ◌<◌}
 use mathlib.Core.Path.{◌≡◌, refl}
 use mathlib.Core.List.{List, [], ◌∷◌, ◌++◌}
 use native.Mathlib.Omega.{arith}
-use lib.ListN.{get_or, length}
-use mir.Val.{Fits}
-use mir.Syntax.{w64}
+use lib.ListN.{get_or}
 use Rattle.row.specs.Kinds.{stored_kinds}
 use Rattle.row.specs.declared.Row.{Row}
 use Rattle.table.specs.Tables.{row_of}
@@ -47,15 +45,3 @@ module _ (t : Table) (k i : ℕ) where
     pub left_next : i < get_or t.counts k 0 → left t k i ≡ row_of t.rows k i ∷ left t k (i + 1)
     unfolding rows_left rows_from
     left_next l = let a : get_or t.counts k 0 - i ≡ suc (get_or t.counts k 0 - (i + 1)) = omega arith in rw (kinds, a)
-
-    -- each turn leaves less: after the last row of a kind
-    pub less_skip : get_or t.counts k 0 ≤ i → length (left t (k + 1) 0) + (stored_kinds - (k + 1)) < length (left t k i) + (stored_kinds - k)
-    less_skip l = rw (left_skip l) (omega arith)
-
-    -- after a row
-    pub less_next : i < get_or t.counts k 0 → length (left t k (i + 1)) + (stored_kinds - k) < length (left t k i) + (stored_kinds - k)
-    less_next l = rw (left_next l) (omega arith)
-
--- and the number of the next row fits
-pub next_fits : (n i : ℕ) → i < n → Fits w64 n → Fits w64 (i + 1)
-next_fits n i h f = omega arith

@@ -12,7 +12,8 @@ use Rattle.row.specs.Kinds.{RowKind, kinds, none, stored_kinds, most_of}
 use Rattle.row.specs.declared.Row.{Row}
 use Rattle.table.specs.Tables.{room_in, most_rows, slots, empty_table, base_of, slot_of, narrowed, field_of, row_of, add_row}
 use Rattle.table.specs.declared.Table.{Table}
-use Rattle.table.proofs.Fields.{three, value_at, kept}
+use Rattle.table.specs.Worded.{value_at}
+use Rattle.table.proofs.Fields.{three, kept}
 use Rattle.table.proofs.Accepted.{Sized, Follows, accepted}
 
 -- a run of stores leaves every other place

@@ -1,9 +1,12 @@
 -- The model's laws of tests, for tests that are told by `≡ true`; and when tests of each or of some number are alike.
 use Prim.Native.Nat.{ℕ, zero, suc, ◌<◌}
-use mathlib.Core.Path.{◌≡◌, refl, sym, ◌∙◌}
-use mathlib.Core.Bool.{Bool, true, false, not}
+use mathlib.Core.Path.{◌≡◌, refl}
+use mathlib.Core.Bool.{Bool, true, false, not, ◌&&◌}
+use mathlib.Core.List.{List, [], ◌∷◌}
 use native.Mathlib.Omega.{arith}
-use Rattle.text.proofs.Picks.{cases, false_true}
+use lib.ListN.{length, get_or}
+use Rattle.std.specs.List.{list_all}
+use Rattle.text.proofs.Picks.{false_true}
 use Rattle.model.specs.Tests.{◌and◌, ◌or◌, each, some, after, need}
 use Rattle.model.proofs.Tests.{T_true, true_T, same_test, and_both, each_mk}
 use Rattle.model.proofs.Tests as tests
@@ -24,10 +27,6 @@ needed false n h = absurd (omega arith)
 -- a test of each number below n holds at every one of them
 pub each_at : (n : ℕ) (p : ℕ → Bool) → each n p ≡ true → (i : ℕ) → i < n → p i ≡ true
 each_at n p h i l = T_true (p i) (tests.each_at p n (true_T (each n p) h) i l)
-
--- does not hold where it fails at one of them
-pub each_fails : (p : ℕ → Bool) (n i : ℕ) → i < n → p i ≡ false → false ≡ each n p
-each_fails p n i l e = cases (each n p) (λ b. absurd (false_true (sym e ∙ each_at n p b i l))) sym
 
 -- and holds where it holds at every one of them
 pub each_all : (n : ℕ) (p : ℕ → Bool) → ((i : ℕ) → i < n → p i ≡ true) → each n p ≡ true
@@ -60,3 +59,22 @@ each_not (suc n) p = rw (each_not n p) (more (some n p))
     more : (b : Bool) → not b and not (p n) ≡ not (b or p n)
     more true = refl
     more false = refl
+
+both_pass : (a : Bool) {b : Bool} → (a && b) ≡ true → (a ≡ true) × (b ≡ true)
+both_pass true h = (refl, h)
+both_pass false h = absurd (false_true h)
+
+-- a test of each element of a list
+module _ (p : ℕ → Bool) where
+  pub list_at : (xs : List ℕ) → list_all p xs ≡ true → (i : ℕ) → i < length xs → p (get_or xs i 0) ≡ true
+  list_at [] h i l = absurd (omega arith)
+  list_at (x ∷ xs) h zero l = (both_pass (p x) h).0
+  list_at (x ∷ xs) h (suc i) l = list_at xs (both_pass (p x) h).1 i (omega arith)
+
+  pub list_mk : (xs : List ℕ) → ((i : ℕ) → i < length xs → p (get_or xs i 0) ≡ true) → list_all p xs ≡ true
+  list_mk [] h = refl
+  list_mk (x ∷ xs) h = rw (h 0 (omega arith), list_mk xs (λ i l. h (suc i) (omega arith)))
+
+  pub list_each : (xs : List ℕ) → list_all p xs ≡ each (length xs) (λ i. p (get_or xs i 0))
+  list_each xs =
+      agree _ _ (λ h. each_all (length xs) (λ i. p (get_or xs i 0)) (list_at xs h)) (λ h. list_mk xs (each_at (length xs) (λ i. p (get_or xs i 0)) h))

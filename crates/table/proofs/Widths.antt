@@ -13,7 +13,7 @@ use Rattle.text.specs.Number.{digits}
 use Rattle.text.specs.Fields.{ether_value, ether_word}
 use Rattle.text.proofs.Numbers.{digits_short}
 use Rattle.text.proofs.Picks.{order}
-use Rattle.row.specs.Kinds.{stored_kinds, kind_words, mode_words, word_of, most_of, form_of, a_target}
+use Rattle.row.specs.Kinds.{stored_kinds, kind_words, mode_words, word_of, most_of, form_of}
 use Rattle.row.specs.Row.{row_line, row_text}
 use Rattle.row.specs.declared.Row.{Row}
 use Rattle.row.proofs.Tables.{word_within}
@@ -23,7 +23,7 @@ use Rattle.table.specs.Tables.{most_rows, add_row}
 use Rattle.table.specs.Checks.{accepts, rows_of, check_table, Passes}
 use Rattle.table.specs.Texts.{longest, end_row, text_of, table_text}
 use Rattle.table.specs.declared.Table.{Table}
-use Rattle.table.proofs.Fields.{by_kind, limit_of, within, by_limit, below_limit, Limited}
+use Rattle.table.proofs.Fields.{by_kind, is_target, limit_of, within, by_limit, below_limit, Limited}
 use Rattle.table.proofs.Accepted.{Sized, Follows, accepted}
 use Rattle.table.proofs.Stored.{empty_sized, count_same, count_other}
 use Rattle.table.proofs.RowsOf.{rows_count}
@@ -35,7 +35,7 @@ unfoldable wide_of : ℕ → ℕ
 wide_of k = get_or (27 ∷ 7 ∷ 26 ∷ 21 ∷ 14 ∷ []) k 0
 
 -- a number within its limit, a target
-number_short : (k j v w : ℕ) → eqb (form_of k j) a_target ≡ false → limit_of k j ≤ 10 ^ w → 1 ≤ w → within k j v ≡ true → length (digits v) ≤ w
+number_short : (k j v w : ℕ) → is_target (form_of k j) ≡ false → limit_of k j ≤ 10 ^ w → 1 ≤ w → within k j v ≡ true → length (digits v) ≤ w
 number_short k j v w n b l h = let m = below_limit k j v n h in digits_short v w (omega arith) l
 
 target_short : (b : ℕ) → within 3 1 b ≡ true → length (pick (eqb b ether_value) ether_word (digits b)) ≤ 5

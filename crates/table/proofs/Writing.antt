@@ -14,10 +14,13 @@ use lib.Seq.{sets, length-sets}
 use Rattle.text.specs.Put.{Put}
 use Rattle.text.proofs.Puts.{put_fits, sets_append}
 use Rattle.row.specs.Row.{row_text}
-use Rattle.table.specs.Texts.{longest, end_row, text_of, table_text, written, write_table, written_over}
+use Rattle.table.specs.Texts.{longest, end_row, text_of, table_text, write_table, wrote_numbers, written_over}
 use Rattle.table.specs.declared.Table.{Table}
-use Rattle.table.specs.declared.Answer.TheVariants.{Fine, Refused}
-use Rattle.table.specs.declared.Read.{Read}
+use Rattle.table.specs.declared.fault.Refused.{Refused}
+use Rattle.std.specs.Prelude.{Result, Ok, Err}
+use Rattle.table.specs.Faults.{number_of}
+use Rattle.table.specs.declared.fault.Fault.TheVariants as fault
+use Rattle.table.proofs.Answers.{Is}
 use Rattle.table.proofs.RowsOf.{rows_count}
 use Rattle.table.proofs.Built.{fine_accepts}
 use Rattle.table.proofs.Widths.{few_rows}
@@ -105,29 +108,33 @@ module _ {t : Table} {k i at : ℕ} {buf buf₀ : List ℕ} (c : Putting t k i a
         (d.0 ∙ wide, d.1 ∙ rw (q, p) (rw (left_none t k i h) at c.same))
 
 -- a table written: refused, longer than the buffer, or whole
-module _ (t : Table) (c : Read) (e : says c ≡ check_table t) (buf : List ℕ) where
-  told_same : (check_table t).numbers ≡ numbers_of c.answer
-  told_same = ap (λ (x : Said). x.numbers) (sym e)
+module _ (t : Table) (c : Result Table Refused) (e : says c ≡ check_table t) (buf : List ℕ) where
+  told_same : (check_table t).numbers ≡ numbers_of c
+  told_same = ap (λ (x : Said). x.numbers) (sym e) ∙ same c
+    where
+      same : (r : Result Table Refused) → (says r).numbers ≡ numbers_of r
+      same (Ok u) = refl
+      same (Err r) = refl
 
   -- the table is accepted
-  pub checked_fine : c.answer ≡ Fine → Passes t
-  checked_fine u = told_same ∙ ap numbers_of u
+  pub checked_fine : (u : Table) → c ≡ Ok u → Passes t
+  checked_fine u q = told_same ∙ ap numbers_of q
 
   -- the table is refused
-  pub write_refused : (n l : ℕ) → c.answer ≡ Refused n l → (w : List ℕ) → w ≡ written (numbers_of c.answer) 0 0
-      → (w ≡ write_table t (length buf)) × (buf ≡ written_over (write_table t (length buf)) (table_text t) buf)
+  pub write_refused : (r : Refused) → c ≡ Err r → (w : Result ℕ Refused) → w ≡ Err r
+      → (wrote_numbers w ≡ write_table t (length buf)) × (buf ≡ written_over (write_table t (length buf)) (table_text t) buf)
   unfolding write_table
-  write_refused n l u w q = rw (told_same, u) (rw u at q, refl)
+  write_refused r u w q = rw (told_same, u, q) (refl, refl)
 
-  module _ (u : c.answer ≡ Fine) (n : ℕ) (q : n ≡ length (table_text t)) where
+  module _ (u : Table) (p : c ≡ Ok u) (n : ℕ) (q : n ≡ length (table_text t)) where
     -- 31: the text is longer than the buffer
     pub write_short : length buf < n
-        → (31 ∷ 0 ∷ [] ≡ write_table t (length buf)) × (buf ≡ written_over (write_table t (length buf)) (table_text t) buf)
+        → (x : Refused) → Is x fault.NoRoom 0 → (number_of x.fault ∷ x.line ∷ [] ≡ write_table t (length buf)) × (buf ≡ written_over (write_table t (length buf)) (table_text t) buf)
     unfolding write_table
-    write_short h = rw (told_same, u, ← q, lt-leb _ _ h) (refl, refl)
+    write_short h x z = rw (z.0, z.1, told_same, p, ← q, lt-leb _ _ h) (refl, refl)
 
     -- the text is written
     pub write_whole : n ≤ length buf → (m : ℕ) (after : List ℕ) → (m ≡ length (table_text t)) × (after ≡ sets buf 0 (table_text t))
         → (m ∷ [] ≡ write_table t (length buf)) × (after ≡ written_over (write_table t (length buf)) (table_text t) buf)
     unfolding write_table
-    write_whole h m after p = rw (told_same, u, ← q, le-leb _ _ h) (rw (p.0, q), p.1)
+    write_whole h m after w = rw (told_same, p, ← q, le-leb _ _ h) (rw (w.0, q), w.1)

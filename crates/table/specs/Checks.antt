@@ -1,5 +1,5 @@
 -- The refusals 2 to 5 of a row behind the rows of a table, and 7 of the whole: what the reader, the writer and the test of a given table share.
-use Rattle.std.specs.Prelude.{ℕ, zero, suc, ◌+◌, List, [], ◌∷◌, ◌++◌, Bool, ◌≡◌, get_or, ltb, eqb}
+use Rattle.std.specs.Prelude.{ℕ, zero, suc, ◌+◌, List, [], ◌∷◌, ◌++◌, Bool, ◌≡◌, get_or, ltb, eqb, Result, Ok, Err}
 use Rattle.text.specs.Parts.{pick}
 use Rattle.row.specs.Kinds.{stored_kinds, most_of}
 use Rattle.row.specs.declared.Row.{Row}
@@ -9,11 +9,8 @@ use Rattle.model.specs.Rows.{task_fault, act_fault, codel_fault, edge_fault, mut
 use Rattle.model.specs.Tables as model
 use Rattle.table.specs.Tables.{empty_table, row_of, add_row, table_of}
 use Rattle.table.specs.declared.Table.{Table}
-use Rattle.table.specs.declared.Answer.{Answer}
-use Rattle.table.specs.declared.Answer.TheVariants as answer
-use Rattle.table.specs.declared.Read.{Read}
-use Rattle.table.specs.declared.Verdict.{Verdict}
-use Rattle.table.specs.declared.Verdict.TheVariants as verdict
+use Rattle.table.specs.declared.fault.Refused.{Refused}
+use Rattle.table.specs.Faults.{number_of}
 
 -- 2: "row out of its place": there are rows of a later kind
 unfoldable pub in_place : List ℕ → ℕ → Bool
@@ -38,15 +35,6 @@ row_fault t r = need (in_place t.counts r.kind) 2 (kind_fault t r)
 unfoldable pub given_fault : Table → Row → ℕ
 given_fault t r = need (ltb (get_or t.counts r.kind 0) (most_of r.kind)) 3 (row_fault t r)
 
--- the check's answer for a fault, and the number of an answer
-abbrev pub verdict_of : ℕ → Verdict
-verdict_of zero = verdict.Fine
-verdict_of (suc n) = verdict.Refused (suc n)
-
-abbrev pub number_of : Verdict → ℕ
-number_of verdict.Fine = 0
-number_of (verdict.Refused n) = n
-
 -- what the reader, or the check of a given table, tells: "The answer is number and line", no numbers where nothing is refused; and the table
 pub record Said : Type 0 where
   pub numbers : List ℕ
@@ -59,13 +47,14 @@ accepts t = record { numbers = []; table = t }
 abbrev pub refused : ℕ → ℕ → Said
 refused n l = record { numbers = n ∷ l ∷ []; table = empty_table }
 
--- the page's number and values for each case of the code's answer
-abbrev pub numbers_of : Answer → List ℕ
-numbers_of answer.Fine = []
-numbers_of (answer.Refused n l) = n ∷ l ∷ []
+-- the page's number and values of a result: no numbers where nothing is refused
+abbrev pub numbers_of : {A : Type 0} → Result A Refused → List ℕ
+numbers_of (Ok a) = []
+numbers_of (Err r) = number_of r.fault ∷ r.line ∷ []
 
-abbrev pub says : Read → Said
-says r = record { numbers = numbers_of r.answer; table = r.table }
+abbrev pub says : Result Table Refused → Said
+says (Ok t) = accepts t
+says (Err r) = refused (number_of r.fault) r.line
 
 -- on no fault go on, else refuse at line l
 abbrev pub on_fault : ℕ → ℕ → Said → Said

@@ -1,9 +1,11 @@
 -- The table by value: its rows by kind, a number for each field; and what the rules see of it.
-use Rattle.std.specs.Prelude.{ℕ, zero, suc, ◌+◌, ◌*◌, ◌≤◌, ◌<◌, min, List, [], ◌∷◌, Bool, ◌≡◌, length, get_or, set, replicate, ltb, leb, eqb}
+use Rattle.std.specs.Prelude.{ℕ, zero, suc, ◌+◌, ◌*◌, ◌≤◌, ◌<◌, min, List, [], ◌∷◌, Bool, ◌≡◌, length, get_or, set, replicate, ltb, leb, eqb, Option, Some, None}
 use Rattle.std.proofs.lemmas.List.Edits.{sets}
 use Rattle.text.specs.Parts.{pick}
 use Rattle.text.specs.Fields.{ether_value}
-use Rattle.row.specs.Kinds.{RowKind, kinds, stored_kinds, most_fields, most_of, form_of, no_field, a_kind, a_mode}
+use Rattle.row.specs.Kinds.{RowKind, kinds, stored_kinds, most_fields, most_of, form_of}
+use Rattle.row.specs.declared.Form.{Form}
+use Rattle.row.specs.declared.Form.TheVariants as form
 use Rattle.row.specs.declared.Row.{Row}
 use Rattle.model.specs.Tables.{target_of}
 use Rattle.model.specs.Tests.{◌and◌, ◌or◌, each, sum}
@@ -56,11 +58,12 @@ unfoldable pub widened : ℕ → ℕ
 widened x = pick (eqb x ether_slot) ether_value x
 
 -- what a stored number says in a field of a form: any codel kind past `main` is `main`, any mode past `pause` is `pause`
-unfoldable pub shown : ℕ → ℕ → ℕ
-shown form x =
-    pick (eqb form no_field) 0
-    (pick (eqb form a_kind) (min x 2)
-    (pick (eqb form a_mode) (min x 1) (widened x)))
+unfoldable pub shown : Option Form → ℕ → ℕ
+shown None x = 0
+shown (Some form.Number) x = widened x
+shown (Some form.Kind) x = min x 2
+shown (Some form.Mode) x = min x 1
+shown (Some form.Target) x = widened x
 
 -- field j of row i of a kind; 0 for a row that there is no room for
 unfoldable pub field_of : List ℕ → ℕ → ℕ → ℕ → ℕ
@@ -71,11 +74,12 @@ abbrev pub row_of : List ℕ → ℕ → ℕ → Row
 row_of rows k i = record { kind = k; a = field_of rows k i 0; b = field_of rows k i 1; c = field_of rows k i 2 }
 
 -- a stored number that is what is stored of what it says: 0 where there is no field, a codel kind up to `main`, a mode up to `pause`, 32 bits
-unfoldable pub stored_ok : ℕ → ℕ → Bool
-stored_ok form x =
-    pick (eqb form no_field) (eqb x 0)
-    (pick (eqb form a_kind) (ltb x 3)
-    (pick (eqb form a_mode) (ltb x 2) (leb x ether_slot)))
+unfoldable pub stored_ok : Option Form → ℕ → Bool
+stored_ok None x = eqb x 0
+stored_ok (Some form.Number) x = leb x ether_slot
+stored_ok (Some form.Kind) x = ltb x 3
+stored_ok (Some form.Mode) x = ltb x 2
+stored_ok (Some form.Target) x = leb x ether_slot
 
 -- number j of row i of a kind: such a number where the table has that row, else 0
 unfoldable pub number_ok : Table → ℕ → ℕ → ℕ → Bool

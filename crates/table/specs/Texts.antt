@@ -1,17 +1,15 @@
 -- A table's text: read row by row, and written.
-use Rattle.std.specs.Prelude.{ℕ, ◌+◌, ◌-◌, List, [], ◌∷◌, ◌++◌, Bool, true, false, length, ltb, leb, eqb}
+use Rattle.std.specs.Prelude.{ℕ, ◌+◌, ◌-◌, List, [], ◌∷◌, ◌++◌, Bool, true, false, length, ltb, leb, eqb, Option, Some, None, Result, Ok, Err}
 use Rattle.std.proofs.lemmas.List.Edits.{sets}
 use Rattle.text.specs.Parts.{pick, split_on}
 use Rattle.row.specs.Kinds.{end_kind}
 use Rattle.row.specs.Row.{read_row, row_text}
 use Rattle.row.specs.declared.Row.{Row}
-use Rattle.row.specs.declared.Line.{Line}
-use Rattle.row.specs.declared.Line.TheVariants as line
 use Rattle.table.specs.Tables.{empty_table, add_row}
+use Rattle.table.specs.Faults.{number_of}
 use Rattle.table.specs.Checks.{row_fault, Said, refused, on_fault, closed, rows_of, check_table}
 use Rattle.table.specs.declared.Table.{Table}
-use Rattle.table.specs.declared.Wrote.{Wrote}
-use Rattle.table.specs.declared.Wrote.TheVariants as wrote
+use Rattle.table.specs.declared.fault.Refused.{Refused}
 
 -- "Length over 32,768 bytes comes first: 3 at line 0."
 abbrev pub longest : ℕ
@@ -21,14 +19,14 @@ abbrev pub is_empty : List ℕ → Bool
 is_empty [] = true
 is_empty (b ∷ bs) = false
 
-abbrev pub on_row : Line → (Row → Said) → Said → Said
-on_row (line.Is r) go bad = go r
-on_row line.Bad go bad = bad
+abbrev pub on_row : Option Row → (Row → Said) → Said → Said
+on_row (Some r) go bad = go r
+on_row None go bad = bad
 
 -- 2: "or after `end`": the refusal of the first line behind the `end` row; the last part is what follows the last newline
-abbrev pub row_behind : Line → ℕ
-row_behind (line.Is r) = 2
-row_behind line.Bad = 1
+abbrev pub row_behind : Option Row → ℕ
+row_behind (Some r) = 2
+row_behind None = 1
 
 unfoldable pub fault_behind : List (List ℕ) → ℕ
 fault_behind [] = 0
@@ -73,10 +71,10 @@ written (n ∷ ls) need have = n ∷ ls
 unfoldable pub write_table : Table → ℕ → List ℕ
 write_table t have = written (check_table t).numbers (length (table_text t)) have
 
--- the page's number and values for each case of the code's answer: the length alone, or number and line
-abbrev pub wrote_numbers : Wrote → List ℕ
-wrote_numbers (wrote.Length n) = n ∷ []
-wrote_numbers (wrote.Refused n l) = n ∷ l ∷ []
+-- the page's number and values of the writer's result: the length alone, or number and line
+abbrev pub wrote_numbers : Result ℕ Refused → List ℕ
+wrote_numbers (Ok n) = n ∷ []
+wrote_numbers (Err r) = number_of r.fault ∷ r.line ∷ []
 
 -- "No refusal changes the buffer; after a success the bytes past the text are unchanged.": a success tells one number
 abbrev pub written_over : List ℕ → List ℕ → List ℕ → List ℕ

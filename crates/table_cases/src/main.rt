@@ -7,8 +7,7 @@
 
 use std::io;
 use std::io::Write;
-use table::{Answer, Table, Wrote};
-use text::{Field, Word};
+use table::{Refused, Table};
 
 // How much room there is for a text written again.
 const TEXT: usize = table::LONGEST;
@@ -31,38 +30,25 @@ fn say_number<W: Write>(to: &mut W, n: u64) -> io::Result<()> {
     write(to, &out, e)
 }
 
-fn say_refusal<W: Write>(to: &mut W, n: u64, line: usize) -> io::Result<()> {
-    say_number(to, n)?;
+fn say_refusal<W: Write>(to: &mut W, refused: Refused) -> io::Result<()> {
+    say_number(to, refused.fault.number())?;
     say(to, b" at line ")?;
-    say_number(to, line as u64)
+    say_number(to, refused.line as u64)
 }
 
-fn say_answer<W: Write>(to: &mut W, a: Answer) -> io::Result<()> {
-    match a {
-        Answer::Fine => say(to, b"fine"),
-        Answer::Refused(n, line) => say_refusal(to, n, line),
-    }
-}
-
-fn say_written<W: Write>(to: &mut W, w: Wrote) -> io::Result<()> {
-    match w {
-        Wrote::Length(n) => {
+fn say_written<W: Write>(to: &mut W, written: Result<usize, Refused>) -> io::Result<()> {
+    match written {
+        Ok(n) => {
             say_number(to, n as u64)?;
             say(to, b" bytes")
         }
-        Wrote::Refused(n, line) => say_refusal(to, n, line),
+        Err(refused) => say_refusal(to, refused),
     }
 }
 
 // Are the first n bytes the same?
 fn same_start(a: &[u8], b: &[u8], n: usize) -> bool {
-    if a.len() < n {
-        return false;
-    }
-    if b.len() < n {
-        return false;
-    }
-    text::same(&a[..n], &b[..n])
+    n <= a.len() && n <= b.len() && a[..n] == b[..n]
 }
 
 // Writes a table into the first n bytes of a buffer, and says what came of it and whether those bytes are the text's.
@@ -90,45 +76,33 @@ fn write_again<W: Write>(to: &mut W, s: &[u8], t: Table, n: usize) -> io::Result
 }
 
 fn show_text<W: Write>(to: &mut W, s: &[u8]) -> io::Result<()> {
-    let r = table::read_table(s);
-    let a = r.answer;
-    let t = r.table;
-    say_answer(to, a)?;
-    let Answer::Fine = a else {
-        return say(to, b"\n");
-    };
-    let n = s.len();
-    say(to, b"; written: ")?;
-    write_again(to, s, t, n)?;
-    if 0 < n {
-        say(to, b"; a byte less: ")?;
-        write_again(to, s, t, n - 1)?;
+    match table::read_table(s) {
+        Ok(t) => {
+            let n = s.len();
+            say(to, b"fine; written: ")?;
+            write_again(to, s, t, n)?;
+            if 0 < n {
+                say(to, b"; a byte less: ")?;
+                write_again(to, s, t, n - 1)?;
+            }
+        }
+        Err(refused) => say_refusal(to, refused)?,
     }
     say(to, b"\n")
 }
 
 // Does a case start here?
 fn starts_case(s: &[u8], at: usize, e: usize) -> bool {
-    if e < at {
+    let Some(line) = s.get(at..e) else {
         return false;
-    }
-    if s.len() < e {
-        return false;
-    }
-    let line = &s[at..e];
-    let w = text::next_byte(line, 0, text::TAB);
-    if line.len() <= w {
-        return false;
-    }
-    match text::word_in(b"case\topen", &line[..w]) {
-        Word::Is(_) => true,
-        Word::Unknown => false,
-    }
+    };
+    line.starts_with(b"case\t") || line.starts_with(b"open\t")
 }
 
 // The place of the next case at or after a place, or the end.
 fn next_case(s: &[u8], from: usize) -> usize {
     let mut at = from;
+    // How many lines there are is not known before; a place is wanted, not the line.
     while at < s.len() {
         let e = text::next_byte(s, at, text::NEWLINE);
         if starts_case(s, at, e) {
@@ -144,24 +118,20 @@ fn next_case(s: &[u8], from: usize) -> usize {
 
 // Is a case with this first line an open one?
 fn is_open(head: &[u8]) -> bool {
-    if head.len() == 0 {
-        return false;
-    }
-    head[0] == b'o'
+    head.starts_with(b"open\t")
 }
 
 // A text without its last byte.
 fn show_cut<W: Write>(to: &mut W, s: &[u8]) -> io::Result<()> {
-    if s.len() == 0 {
-        return Ok(());
+    match s.split_last() {
+        Some((_, cut)) => show_text(to, cut),
+        None => Ok(()),
     }
-    let n = s.len() - 1;
-    show_text(to, &s[..n])
 }
 
 // The case whose first line is given, with its text.
 fn show_case<W: Write>(to: &mut W, head: &[u8], s: &[u8]) -> io::Result<()> {
-    let Field::At(a, e) = text::nth_field(head, 1) else {
+    let Some((a, e)) = text::nth_field(head, 1) else {
         return Ok(());
     };
     say(to, &head[a..e])?;
@@ -174,6 +144,7 @@ fn show_case<W: Write>(to: &mut W, head: &[u8], s: &[u8]) -> io::Result<()> {
 
 fn show_cases<W: Write>(to: &mut W, s: &[u8]) -> io::Result<()> {
     let mut at = next_case(s, 0);
+    // Each case begins where the one before ends.
     while at < s.len() {
         let e = text::next_byte(s, at, text::NEWLINE);
         if s.len() <= e {
@@ -233,10 +204,12 @@ fn show_count<W: Write>(
 }
 
 fn show_spoiled<W: Write>(to: &mut W) -> io::Result<()> {
-    let r = table::read_table(
+    let t = match table::read_table(
         b"task\t10\t5\nact\t0\ncodel\t0\tstart\t20\nedge\t0\tether\trun\nend\t4\n",
-    );
-    let t = r.table;
+    ) {
+        Ok(t) => t,
+        Err(refused) => return say_refusal(to, refused),
+    };
     show_row(to, b"K given to the writer", t, 0, 10)?;
     show_row(to, b"period 0", t, 0, 0)?;
     show_row(to, b"keep above the most ticks", t, 1, 1000000001)?;
@@ -352,14 +325,12 @@ fn largest() -> Table {
         model::MOST_MUTEXES,
     ];
     let mut rows = [0u32; table::SLOTS];
-    let mut n = 0;
-    while n < ROWS {
+    for n in 0..ROWS {
         let r = largest_row(n);
         let p = row::FIELDS * (n as usize);
         rows[p] = r.a;
         rows[p + 1] = r.b;
         rows[p + 2] = r.c;
-        n += 1;
     }
     Table { counts, rows }
 }

@@ -4,15 +4,16 @@
 ghost use Rattle.std.specs.Prelude.{◌≡◌, ◌<◌, ◌≤◌};
 ghost use Rattle.model.specs.Cycles.{managing, line_of};
 ghost use Rattle.report.specs.Rows.{sum_numbers};
-ghost use Rattle.prepared.specs.Prepared.{table_in, Prepared};
+ghost use Rattle.prepared.specs.Held.{held};
 ghost use Rattle.tally.specs.Tallies.{ruled_by, ruling_by, after_wait, after_sm, after_step, lines_of, after_row, begun_with, began, most_count, Roomy, sum_of};
 
 use model::{State, Task, TaskStep};
+use prepared::Component;
 use report::Cycle;
 
 // What is counted beside a run: accepted steps, `state` rows, cycles opened, kept and dropped, the steps since the last wait, and the most of
-// the stretches that a wait has ended.
-#[derive(Clone, Copy)]
+// the stretches that a wait has ended. How much a count may still grow, the caller knows by what is left of the log: each step asks for it.
+#[derive(Clone, Copy, Default)]
 pub struct Tally {
     pub steps: u64,
     pub rows: u64,
@@ -21,6 +22,16 @@ pub struct Tally {
     pub dropped: u64,
     pub since: u64,
     pub most: u64,
+}
+
+impl Tally {
+    // How many lines were accepted: steps and `state` rows.
+    pub fn lines(&self) -> u64
+        requires { lines_of self.now ≤ most_count }
+        ensures { result ≡ lines_of self.now }
+    {
+        self.steps + self.rows
+    }
 }
 
 // The verdict that a step gives: none, or on the cycle that it closes.
@@ -32,112 +43,101 @@ pub enum Ruling {
 }
 
 // "kept if close date minus open date is at least the task's keep, or missed is at least 1; else dropped"
-fn ruled(rows: &[u32], index: &[u32], t: usize, date: u64, x: Task) -> Ruling
-    requires { Prepared rows.now index.now × (t < (table_in rows.now index.now).ntasks) × (x.opened ≤ date) }
-    ensures { result ≡ ruled_by (table_in rows.now index.now) t date x }
+fn ruled(component: &Component, task: usize, date: u64, x: Task) -> Ruling
+    requires { (task < (held component.now).ntasks) × (x.opened ≤ date) }
+    ensures { result ≡ ruled_by (held component.now) task date x }
 {
-    let kept = Ruling::Kept(Cycle {
-        task: t,
-        cycle: x.cycle,
-        opened: x.opened,
-        closed: date,
-        missed: x.missed,
-        longest: x.longest,
-    });
-    if prepared::keep_of(rows, index, t) <= date - x.opened {
-        return kept;
+    if component.keep_of(task) <= date - x.opened || x.missed >= 1 {
+        Ruling::Kept(Cycle {
+            task,
+            cycle: x.cycle,
+            opened: x.opened,
+            closed: date,
+            missed: x.missed,
+            longest: x.longest,
+        })
+    } else {
+        Ruling::Dropped
     }
-    if x.missed < 1 {
-        return Ruling::Dropped;
-    }
-    kept
 }
 
 // The verdict that an accepted step of a task gives: only `fm` gives one.
-pub fn ruling_of(rows: &[u32], index: &[u32], t: usize, k: TaskStep, date: u64, x: Task) -> Ruling
-    requires { Prepared rows.now index.now × (t < (table_in rows.now index.now).ntasks) × (x.opened ≤ date) }
-    ensures { result ≡ ruling_by (table_in rows.now index.now) t k date x }
+pub fn ruling_of(component: &Component, task: usize, step: TaskStep, date: u64, x: Task) -> Ruling
+    requires { (task < (held component.now).ntasks) × (x.opened ≤ date) }
+    ensures { result ≡ ruling_by (held component.now) task step date x }
 {
-    match k {
+    match step {
         TaskStep::St => Ruling::Open,
-        TaskStep::Fm => ruled(rows, index, t, date, x),
+        TaskStep::Fm => ruled(component, task, date, x),
     }
 }
 
 // The tally after a wait: a stretch ends.
-pub fn after_wait(c: Tally) -> Tally
-    requires { Roomy c 1 }
-    ensures { result ≡ after_wait c }
+pub fn after_wait(tally: Tally) -> Tally
+    requires { Roomy tally 1 }
+    ensures { result ≡ after_wait tally }
 {
-    let mut d = c;
-    d.steps = c.steps + 1;
-    d.since = 0;
-    if c.most < c.since {
-        d.most = c.since;
-        return d;
+    Tally {
+        steps: tally.steps + 1,
+        since: 0,
+        most: tally.most.max(tally.since),
+        ..tally
     }
-    d
 }
 
 // The tally after an `sm`: a cycle is opened.
-pub fn after_sm(c: Tally) -> Tally
-    requires { Roomy c 1 }
-    ensures { result ≡ after_sm c }
+pub fn after_sm(tally: Tally) -> Tally
+    requires { Roomy tally 1 }
+    ensures { result ≡ after_sm tally }
 {
-    let mut d = c;
-    d.steps = c.steps + 1;
-    d.opened = c.opened + 1;
-    d.since = c.since + 1;
-    d
+    Tally {
+        steps: tally.steps + 1,
+        opened: tally.opened + 1,
+        since: tally.since + 1,
+        ..tally
+    }
 }
 
 // The tally after any other step, by its verdict.
-pub fn after_step(c: Tally, w: Ruling) -> Tally
-    requires { Roomy c 1 }
-    ensures { result ≡ after_step c w }
+pub fn after_step(tally: Tally, ruling: Ruling) -> Tally
+    requires { Roomy tally 1 }
+    ensures { result ≡ after_step tally ruling }
 {
-    let mut d = c;
-    d.steps = c.steps + 1;
-    d.since = c.since + 1;
-    match w {
-        Ruling::Open => d,
-        Ruling::Kept(_) => {
-            d.kept = c.kept + 1;
-            d
-        }
-        Ruling::Dropped => {
-            d.dropped = c.dropped + 1;
-            d
-        }
+    let counted = Tally {
+        steps: tally.steps + 1,
+        since: tally.since + 1,
+        ..tally
+    };
+    match ruling {
+        Ruling::Open => counted,
+        Ruling::Kept(_) => Tally {
+            kept: tally.kept + 1,
+            ..counted
+        },
+        Ruling::Dropped => Tally {
+            dropped: tally.dropped + 1,
+            ..counted
+        },
     }
 }
 
 // The tally after a `state` row that equals the state reached: a line, no step.
-pub fn after_row(c: Tally) -> Tally
-    requires { Roomy c 1 }
-    ensures { result ≡ after_row c }
+pub fn after_row(tally: Tally) -> Tally
+    requires { Roomy tally 1 }
+    ensures { result ≡ after_row tally }
 {
-    let mut d = c;
-    d.rows = c.rows + 1;
-    d
+    Tally {
+        rows: tally.rows + 1,
+        ..tally
+    }
 }
 
 // How many tasks manage.
-fn count_managing(rows: &[u32], index: &[u32], s: State) -> u64
-    requires { Prepared rows.now index.now }
-    ensures { result ≡ managing (table_in rows.now index.now) s }
+fn count_managing(component: &Component, s: State) -> u64
+    ensures { result ≡ managing (held component.now) s }
 {
-    let nt = prepared::tasks(rows, index);
-    let mut n = 0;
-    let mut t = 0;
-    while t < nt {
-        let x = s.tasks[t];
-        t += 1;
-        if x.managing {
-            n += 1;
-        }
-    }
-    n
+    let tasks = &s.tasks[..component.tasks()];
+    tasks.iter().filter(|x| x.managing).count() as u64
 }
 
 // The tally of a log whose first line, a `state` row, sets the state: "managing tasks at the start count as opened".
@@ -145,22 +145,17 @@ pub fn begun_with(opened: u64) -> Tally
     ensures { result ≡ begun_with opened }
 {
     Tally {
-        steps: 0,
         rows: 1,
-        opened: opened,
-        kept: 0,
-        dropped: 0,
-        since: 0,
-        most: 0,
+        opened,
+        ..Tally::default()
     }
 }
 
 // The same by that state.
-pub fn begun_at(rows: &[u32], index: &[u32], s: State) -> Tally
-    requires { Prepared rows.now index.now }
-    ensures { result ≡ began (table_in rows.now index.now) s }
+pub fn begun_at(component: &Component, s: State) -> Tally
+    ensures { result ≡ began (held component.now) s }
 {
-    begun_with(count_managing(rows, index, s))
+    begun_with(count_managing(component, s))
 }
 
 // "Lines count from the first line of table or log. .. No refusal: 0 and 0."
@@ -168,26 +163,23 @@ fn line_of(refusal: u64, lines: u64) -> u64
     requires { lines ≤ most_count }
     ensures { result ≡ line_of refusal lines }
 {
-    if refusal == 0 {
-        return 0;
-    }
-    lines + 1
+    if refusal == 0 { 0 } else { lines + 1 }
 }
 
-// The numbers of the `sum` row where judging ends with a refusal, 0 for none.
-pub fn sum_numbers(rows: &[u32], index: &[u32], s: State, c: Tally, refusal: u64) -> [u64; 9]
-    requires { Prepared rows.now index.now × (lines_of c ≤ most_count) }
-    ensures { result ≡ sum_numbers (sum_of (table_in rows.now index.now) s c refusal) }
+// The numbers of the `sum` row where judging ends with a refusal, 0 for none. The refusal stays a number here: the row is promised for any.
+pub fn sum_numbers(component: &Component, s: State, tally: Tally, refusal: u64) -> [u64; 9]
+    requires { lines_of tally ≤ most_count }
+    ensures { result ≡ sum_numbers (sum_of (held component.now) s tally refusal) }
 {
-    let mut n = [0u64; 9];
-    n[0] = c.steps;
-    n[1] = s.date;
-    n[2] = c.opened;
-    n[3] = c.kept;
-    n[4] = c.dropped;
-    n[5] = count_managing(rows, index, s);
-    n[6] = records::larger(c.most, c.since);
-    n[7] = refusal;
-    n[8] = line_of(refusal, c.steps + c.rows);
-    n
+    [
+        tally.steps,
+        s.date,
+        tally.opened,
+        tally.kept,
+        tally.dropped,
+        count_managing(component, s),
+        tally.most.max(tally.since),
+        refusal,
+        line_of(refusal, tally.lines()),
+    ]
 }

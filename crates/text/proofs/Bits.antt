@@ -15,9 +15,6 @@ use Rattle.text.proofs.Picks.{order}
 pub power_is : (k : ℕ) → k < 64 → 1 * 2 ^ k % 2 ^ 64 ≡ 2 ^ k
 power_is k h = shl_exact {a = 1} 1 k 64 (omega arith) (omega arith) ∙ omega arith
 
-pub power_some : (k p : ℕ) → p ≡ 2 ^ k → 0 < p
-power_some k p e = omega (arith, pow_pos k)
-
 -- a bit that is not set is 0
 bit_zero : (m : ℕ) → eqb (m % 2) 1 ≡ false → m % 2 ≡ 0
 bit_zero m e = omega (arith, eqb-false (m % 2) 1 e)

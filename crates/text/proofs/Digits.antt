@@ -11,14 +11,15 @@ use lib.ListN.{length, get_or, length-append, get_or-append}
 use lib.Seq.{get_or_at}
 use lib.Dec.{ltb, eqb}
 use borrow.Author.Tests.{lt-ltb, le-ltb, ne_eqb, ltb-true}
+use Rattle.std.specs.Prelude.{Some, None}
+use Rattle.std.proofs.lemmas.Option.{none-some}
 use Rattle.text.specs.Parts.{free}
 use Rattle.text.specs.Digits.{glyph_of, value_of, scan, pad}
-use Rattle.text.specs.declared.Number.TheVariants.{Is, Bad}
 use Rattle.text.proofs.Picks.{order, picked, passed, false_true}
 
 -- bad form is no value
-pub bad_is : {n : ℕ} → Bad ≡ Is n → ⊥
-bad_is e = let z : ◌≡◌ {A = ℕ} 0 1 = cc in omega arith
+pub bad_is : {n : ℕ} → None ≡ Some n → ⊥
+bad_is e = none-some _ e
 
 -- the digit of a byte, by which byte it is
 module _ (b : ℕ) where
@@ -102,7 +103,7 @@ pad_digit base (suc k) (suc q) n h =
     (rw (pow-succ' base q, ← div-div-eq-div-mul n base (base ^ q)) (pad_digit base k q (n / base) (omega arith)))
 
 -- digits after digits
-pub scan_append : (base v x : ℕ) (p q : List ℕ) → scan base v p ≡ Is x → scan base v (p ++ q) ≡ scan base x q
+pub scan_append : (base v x : ℕ) (p q : List ℕ) → scan base v p ≡ Some x → scan base v (p ++ q) ≡ scan base x q
 scan_append base v x [] q h = let e : v ≡ x = cc in rw e
 scan_append base v x (b ∷ bs) q h =
     let t = picked (ltb (value_of b) base) bad_is h in
@@ -124,14 +125,14 @@ module _ (base : ℕ) (pos : 0 < base) (most : base ≤ 16) where
   lift_back v k = rw (pow-suc, mul_assoc)
 
   -- a number padded to k digits that hold it is read back, after v
-  pub scan_pad : (k v n : ℕ) → n < base ^ k → scan base v (pad base k n) ≡ Is (v * base ^ k + n)
-  scan_pad zero v n h = let l : n < 1 = rw pow-zero at h in ap Is (rw pow-zero (omega arith))
+  pub scan_pad : (k v n : ℕ) → n < base ^ k → scan base v (pad base k n) ≡ Some (v * base ^ k + n)
+  scan_pad zero v n h = let l : n < 1 = rw pow-zero at h in ap Some (rw pow-zero (omega arith))
   scan_pad (suc k) v n h =
       let l : n / base < base ^ k = (div-lt_iff_lt-mul pos).1 (rw pow-suc at h) in
       let m : n % base < base = mod-lt n pos in
       let g : value_of (glyph_of (n % base)) ≡ n % base = value_glyph (n % base) (omega arith) in
       rw (scan_append base v (v * base ^ k + n / base) (pad base k (n / base)) (glyph_of (n % base) ∷ []) (scan_pad k v (n / base) l), g, lt-ltb _ _ m)
-      (ap Is (rw (add-mul (v * base ^ k) (n / base) base) (omega (arith, div-add-mod' n base, lift_back v k))))
+      (ap Some (rw (add-mul (v * base ^ k) (n / base) base) (omega (arith, div-add-mod' n base, lift_back v k))))
 
   -- a digit put before k others
   pad_head : (k d r : ℕ) → d < base → r < base ^ k → pad base (suc k) (d * base ^ k + r) ≡ glyph_of d ∷ pad base k r
@@ -147,7 +148,7 @@ module _ (base : ℕ) (pos : 0 < base) (most : base ≤ 16) where
       rw (e, digits_div (d * base ^ k + r / base) m, digits_mod (d * base ^ k + r / base) m, pad_head k d (r / base) h j)
 
   -- every run of digits that is read is a padded number
-  pub scan_run : (s : List ℕ) (v x : ℕ) → scan base v s ≡ Is x → Run base v x s
+  pub scan_run : (s : List ℕ) (v x : ℕ) → scan base v s ≡ Some x → Run base v x s
   scan_run [] v x e =
       let q : v ≡ x = cc in
       record { rest = 0; total = rw pow-zero (omega arith); below = rw pow-zero (omega arith); same = refl }
@@ -164,13 +165,13 @@ module _ (base : ℕ) (pos : 0 < base) (most : base ≤ 16) where
       }
 
   -- a run of k digits after v is below (v + 1) base ^ k
-  pub scan_below : (s : List ℕ) (v x : ℕ) → scan base v s ≡ Is x → x < (v + 1) * base ^ length s
+  pub scan_below : (s : List ℕ) (v x : ℕ) → scan base v s ≡ Some x → x < (v + 1) * base ^ length s
   scan_below s v x e =
       let r = scan_run s v x e in
       omega (arith, r.total, r.below, add-mul v 1 (base ^ length s), one-mul (base ^ length s))
 
   -- a run of digits is its value, padded to as many
-  pub pad_scan : (s : List ℕ) (x : ℕ) → scan base 0 s ≡ Is x → pad base (length s) x ≡ s
+  pub pad_scan : (s : List ℕ) (x : ℕ) → scan base 0 s ≡ Some x → pad base (length s) x ≡ s
   pad_scan s x e =
       let r = scan_run s 0 x e in
       let q : x ≡ r.rest = omega (arith, r.total, zero-mul (base ^ length s)) in

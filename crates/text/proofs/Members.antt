@@ -1,10 +1,10 @@
 -- The members of a set: those of its two halves, and tests of each.
 use Prim.Native.Nat.{ℕ, zero, suc, ◌+◌, ◌-◌, ◌%◌, ◌^◌, ◌≤◌, ◌<◌}
 use mathlib.Core.Path.{◌≡◌, refl, sym, ap, ◌∙◌}
-use mathlib.Core.Bool.{Bool, true, false, not}
+use mathlib.Core.Bool.{Bool, true, false}
 use native.Mathlib.Omega.{arith}
 use lib.Dec.{ltb, leb}
-use borrow.Author.Tests.{lt-ltb, le-ltb, le-leb, ltb-true, leb-true, not-true, not-false}
+use borrow.Author.Tests.{lt-ltb, le-ltb, le-leb, ltb-true, leb-true}
 use Rattle.text.specs.Parts.{pick}
 use Rattle.text.specs.Set.{half_room, set_room, empty_set, bit, member, each_of, each_member, is_between, between, bits_between}
 use Rattle.text.specs.declared.Set.{Set}
@@ -154,9 +154,9 @@ halves_between n from to = same_test _ _ both whole
 
 module _ (n : Set) (from to : ℕ) (b : Bool) (e : b ≡ bits_between n.low from to) where
   -- a member of the low half does not
-  pub between_not : not b ≡ true → false ≡ between n from to
-  between_not u = let f = sym e ∙ not-true b u in rw (halves_between n from to, f)
+  pub between_not : b ≡ false → b ≡ between n from to
+  between_not u = let f = sym e ∙ u in rw (halves_between n from to, f, u)
 
   -- those of the low half do, and so the high half decides
-  pub between_rest : not b ≡ false → (f t : ℕ) → f ≡ from - 64 → t ≡ to - 64 → (r : Bool) → r ≡ bits_between n.high f t → r ≡ between n from to
-  between_rest u f t p q r h = let g = sym e ∙ not-false b u in rw (halves_between n from to, g, ← p, ← q) h
+  pub between_rest : b ≡ true → (f t : ℕ) → f ≡ from - 64 → t ≡ to - 64 → (r : Bool) → r ≡ bits_between n.high f t → r ≡ between n from to
+  between_rest u f t p q r h = let g = sym e ∙ u in rw (halves_between n from to, g, ← p, ← q) h

@@ -8,14 +8,14 @@ use native.Mathlib.Nat.{pow-le-pow_right, one-le-pow, le-div_iff_mul-le, div-lt_
 use lib.ListN.{length, get_or}
 use lib.Dec.{ltb, eqb}
 use borrow.Author.Tests.{lt-ltb, le-ltb, ne_eqb, ltb-true, ltb-false, eqb-true, eqb-false}
+use Rattle.std.specs.Prelude.{Some}
 use Rattle.text.specs.Parts.{free}
 use Rattle.text.specs.Digits.{glyph_of, scan, pad}
 use Rattle.text.specs.Number.{widest, read_number, width_from, width_of, digits}
-use Rattle.text.specs.declared.Number.TheVariants.{Is}
 use Rattle.text.proofs.Picks.{cases, order, passed}
 use Rattle.text.proofs.Digits.{bad_is, length_pad, pad_free, pad_digit, scan_pad, scan_below, pad_scan}
 
-ten_le : {i j : ℕ} → i ≤ j → 10 ^ i ≤ 10 ^ j
+pub ten_le : {i j : ℕ} → i ≤ j → 10 ^ i ≤ 10 ^ j
 ten_le h = pow-le-pow_right (omega arith) h
 
 -- the width found is among those looked at
@@ -51,7 +51,7 @@ pub width_bound : (n w : ℕ) → n < 10 ^ w → 1 ≤ w → width_of n ≤ w
 unfolding width_of
 width_bound n w h l = least widest 1 n w l h
 
-width_narrow : (n : ℕ) → width_of n ≤ widest → n < 10 ^ width_of n
+pub width_narrow : (n : ℕ) → width_of n ≤ widest → n < 10 ^ width_of n
 unfolding width_of
 width_narrow n h = holds widest 1 n (omega arith)
 
@@ -104,12 +104,12 @@ zero_first n j h l =
     let m : n < 10 ^ j = omega (arith, width_narrow n (omega arith)) in
     first_digit j n (omega arith) ∙ rw (div-eq_of_lt m)
 
-scan_digits : (n : ℕ) → width_of n ≤ widest → scan 10 0 (digits n) ≡ Is n
+scan_digits : (n : ℕ) → width_of n ≤ widest → scan 10 0 (digits n) ≡ Some n
 unfolding digits
-scan_digits n h = scan_pad 10 (omega arith) (omega arith) (width_of n) 0 n (width_narrow n h) ∙ ap Is (omega arith)
+scan_digits n h = scan_pad 10 (omega arith) (omega arith) (width_of n) 0 n (width_narrow n h) ∙ ap Some (omega arith)
 
 -- the text of a number of at most so many digits is read as that number
-pub read_digits : (most n : ℕ) → width_of n ≤ most → width_of n ≤ widest → read_number most (digits n) ≡ Is n
+pub read_digits : (most n : ℕ) → width_of n ≤ most → width_of n ≤ widest → read_number most (digits n) ≡ Some n
 unfolding read_number
 read_digits most n h l =
     let w = width_within n in
@@ -120,7 +120,7 @@ read_digits most n h l =
     (λ e. rw (e, ne_eqb _ _ (no_zero n l (eqb-false (width_of n) 1 e)), scan_digits n l)))
 
 -- digits that begin with a zero only where there is but one are the text of their value
-written : (s : List ℕ) (n j : ℕ) → scan 10 0 s ≡ Is n → length s ≡ suc j → j < widest → (1 ≤ j → get_or s 0 0 ≡ 48 → ⊥)
+written : (s : List ℕ) (n j : ℕ) → scan 10 0 s ≡ Some n → length s ≡ suc j → j < widest → (1 ≤ j → get_or s 0 0 ≡ 48 → ⊥)
     → (digits n ≡ s) × (width_of n ≡ length s)
 unfolding digits
 written s n j u l h big =
@@ -135,7 +135,7 @@ written s n j u l h big =
     (rw e p, omega arith)
 
 -- a field that is read as a number is the text of that number, which is no wider than asked for
-pub digits_read : (most : ℕ) (s : List ℕ) (n : ℕ) → read_number most s ≡ Is n → (digits n ≡ s) × (width_of n ≤ most)
+pub digits_read : (most : ℕ) (s : List ℕ) (n : ℕ) → read_number most s ≡ Some n → (digits n ≡ s) × (width_of n ≤ most)
 unfolding read_number
 digits_read most s n u =
     let a = passed (eqb (length s) 0) bad_is u in
@@ -151,13 +151,13 @@ digits_read most s n u =
     (r.0, omega (arith, ltb-false most (length s) b.0, r.1))
 
 -- a number of at most so many digits is below that power of ten
-pub number_below : (most : ℕ) (p : List ℕ) (v : ℕ) → read_number most p ≡ Is v → v < 10 ^ most
+pub number_below : (most : ℕ) (p : List ℕ) (v : ℕ) → read_number most p ≡ Some v → v < 10 ^ most
 unfolding read_number
 number_below most p v u =
     let a = passed (eqb (length p) 0) bad_is u in
     let b = passed (ltb most (length p)) bad_is a.1 in
     let c = passed (ltb widest (length p)) bad_is b.1 in
-    let below : scan 10 0 p ≡ Is v → v < 10 ^ most =
+    let below : scan 10 0 p ≡ Some v → v < 10 ^ most =
     λ s.
     let l : 10 ^ length p ≤ 10 ^ most = pow-le-pow_right (omega arith) (ltb-false most (length p) b.0) in
     omega (arith, scan_below 10 (omega arith) (omega arith) p 0 v s) in

@@ -1,6 +1,6 @@
 -- Cutting a text at each byte c and putting it together again; and where its parts stand.
 use Prim.Native.Nat.{ℕ, zero, suc, ◌+◌, ◌-◌, ◌≤◌, ◌<◌}
-use mathlib.Core.Path.{◌≡◌, refl}
+use mathlib.Core.Path.{◌≡◌, refl, sym}
 use mathlib.Core.List.{List, [], ◌∷◌, ◌++◌}
 use mathlib.Core.Bool.{true, false}
 use native.Mathlib.Omega.{arith}
@@ -8,8 +8,9 @@ use lib.ListN.{length, get_or, drop, take, length-drop}
 use lib.Seq.{drop-drop, length-take-le}
 use lib.Dec.{eqb, leb-suc-suc}
 use borrow.Author.Tests.{eq-eqb, eqb-true, le-ltb, lt-ltb}
+use Rattle.std.specs.Prelude.{Some, None}
+use Rattle.std.proofs.lemmas.Option.{none-some, some_pair_parts}
 use Rattle.text.specs.Parts.{before, first_at, split_on, on_head, join_on, free, all_free, parts_from, field_from, field_at}
-use Rattle.text.specs.declared.Field.TheVariants.{At, Absent}
 use Rattle.text.proofs.Picks.{cases, order, picked, passed, false_true}
 
 join_head : (c b : ℕ) (ls : List (List ℕ)) → join_on c (on_head b ls) ≡ b ∷ join_on c ls
@@ -114,37 +115,38 @@ cut_length c s a h =
     let l = length-drop a s in
     omega (arith, length-take-le (first_at s a c - a) (drop a s) (omega arith))
 
-reached : (c : ℕ) (s : List ℕ) (i at a e : ℕ) → field_from at (parts_from c s at) i ≡ At a e → at ≤ length s
+reached : (c : ℕ) (s : List ℕ) (i at a e : ℕ) → field_from at (parts_from c s at) i ≡ Some (a, e) → at ≤ length s
 reached c s i at a e u =
     order (length s) at
-    (λ k. let v : Absent ≡ At a e = rw (parts_none c s at k) at u in let z : ◌≡◌ {A = ℕ} 0 1 = cc in absurd (omega arith))
+    (λ k. absurd (none-some _ (rw (parts_none c s at k) at u)))
     (λ k. k)
 
-field_from_lem : (c : ℕ) (s : List ℕ) (i at a e : ℕ) → field_from at (parts_from c s at) i ≡ At a e → Stands s a e (get_or (parts_from c s at) i [])
+field_from_lem : (c : ℕ) (s : List ℕ) (i at a e : ℕ) → field_from at (parts_from c s at) i ≡ Some (a, e) → Stands s a e (get_or (parts_from c s at) i [])
 field_from_lem c s zero at a e u =
     let k = reached c s zero at a e u in
-    let v : At at (at + length (take (first_at s at c - at) (drop at s))) ≡ At a e = rw (parts_cut c s at k) at u in
-    let p : at ≡ a = cc in
-    let q : first_at s at c ≡ e = cc (cut_length c s at k) in
+    let v : Some (at, at + length (take (first_at s at c - at) (drop at s))) ≡ Some (a, e) = rw (parts_cut c s at k) at u in
+    let t = some_pair_parts _ _ _ _ v in
+    let p : at ≡ a = t.0 in
+    let q : first_at s at c ≡ e = cc (t.1, cut_length c s at k) in
     let b = first_at_le c s at k in
     rw (parts_cut c s at k, ← p, ← q) record { starts = b.0; ends = b.1; bytes = refl }
 field_from_lem c s (suc j) at a e u =
     let k = reached c s (suc j) at a e u in
-    let v : field_from (at + length (take (first_at s at c - at) (drop at s)) + 1) (parts_from c s (first_at s at c + 1)) j ≡ At a e =
+    let v : field_from (at + length (take (first_at s at c - at) (drop at s)) + 1) (parts_from c s (first_at s at c + 1)) j ≡ Some (a, e) =
     rw (parts_cut c s at k) at u in
     rw (parts_cut c s at k) (field_from_lem c s j (first_at s at c + 1) a e (rw (cut_length c s at k) at v))
 
 -- where a field of a line stands, when the line has it
-pub field_part : (s : List ℕ) (i a e : ℕ) → field_at s i ≡ At a e → Stands s a e (get_or (split_on 9 s) i [])
+pub field_part : (s : List ℕ) (i a e : ℕ) → field_at s i ≡ Some (a, e) → Stands s a e (get_or (split_on 9 s) i [])
 unfolding field_at
 field_part s i a e u = rw (← parts_all 9 s) (field_from_lem 9 s i 0 a e (rw (parts_all 9 s) u))
 
-absent_from : (at : ℕ) (ps : List (List ℕ)) (i : ℕ) → field_from at ps i ≡ Absent → length ps ≤ i
+absent_from : (at : ℕ) (ps : List (List ℕ)) (i : ℕ) → field_from at ps i ≡ None → length ps ≤ i
 absent_from at [] i u = omega arith
-absent_from at (p ∷ ps) zero u = let z : ◌≡◌ {A = ℕ} 0 1 = cc in absurd (omega arith)
+absent_from at (p ∷ ps) zero u = absurd (none-some _ (sym u))
 absent_from at (p ∷ ps) (suc i) u = let h = absent_from (at + length p + 1) ps i u in omega arith
 
 -- a field that the line has not is past its last
-pub field_absent : (s : List ℕ) (i : ℕ) → field_at s i ≡ Absent → length (split_on 9 s) ≤ i
+pub field_absent : (s : List ℕ) (i : ℕ) → field_at s i ≡ None → length (split_on 9 s) ≤ i
 unfolding field_at
 field_absent s i u = absent_from 0 (split_on 9 s) i u

@@ -10,13 +10,12 @@ use lib.Seq.{take_at, drop_at, length-take-le, get_or-take, get_or-drop}
 use lib.Dec.{ltb, eqb}
 use lib.Pow.{pow-add, shr-shr, mod-mod-pow, field}
 use borrow.Author.Tests.{eq-eqb, le-ltb, eqb-true, ltb-false}
+use Rattle.std.specs.Prelude.{Option, Some, None}
+use Rattle.std.proofs.lemmas.Option.{none-some}
 use Rattle.text.specs.Parts.{free}
 use Rattle.text.specs.Digits.{glyph_of, value_of, scan, pad}
 use Rattle.text.specs.Set.{high_digits, low_digits, halves, read_set, set_text, bit, member}
-use Rattle.text.specs.declared.Number.{Number}
-use Rattle.text.specs.declared.Number.TheVariants as number
 use Rattle.text.specs.declared.Set.{Set}
-use Rattle.text.specs.declared.SetField.TheVariants.{Is, Bad}
 use Rattle.text.proofs.Picks.{order, picked, passed}
 use Rattle.text.proofs.Digits.{length_pad, free_append, pad_free, pad_digit, scan_pad, scan_below, pad_scan, value_glyph}
 use Rattle.text.proofs.Bits.{clear_high}
@@ -39,7 +38,7 @@ abbrev pub Held : ℕ → Set → Type 0
 Held k n = (n.low < 16 ^ low_digits k) × (n.high < 16 ^ high_digits k)
 
 -- the text of a set that k digits hold is read as that set
-pub read_set_text : (k : ℕ) (n : Set) → k ≤ 32 → Held k n → read_set k (set_text k n) ≡ Is n
+pub read_set_text : (k : ℕ) (n : Set) → k ≤ 32 → Held k n → read_set k (set_text k n) ≡ Some n
 unfolding read_set set_text
 read_set_text k n m h =
     let p = pad 16 (high_digits k) n.high in
@@ -51,25 +50,25 @@ read_set_text k n m h =
     (rw (scan_pad 16 (omega arith) (omega arith) (low_digits k) 0 n.low h.0, scan_pad 16 (omega arith) (omega arith) (high_digits k) 0 n.high h.1, e, f))
 
 -- bad form is no set
-pub bad_set : {n : Set} → Bad ≡ Is n → ⊥
-bad_set e = let z : ◌≡◌ {A = ℕ} 0 1 = cc in omega arith
+pub bad_set : {n : Set} → None ≡ Some n → ⊥
+bad_set e = none-some _ e
 
-both_halves : (n : Set) (a b : Number) → halves a b ≡ Is n → (a ≡ number.Is n.low) × (b ≡ number.Is n.high)
-both_halves n (number.Is l) (number.Is h) e =
-    let q : ◌≡◌ {A = Set} (record { low = l; high = h }) n = cc in (ap (λ m. number.Is m.low) q, ap (λ m. number.Is m.high) q)
-both_halves n (number.Is l) number.Bad e = absurd (bad_set e)
-both_halves n number.Bad b e = absurd (bad_set e)
+both_halves : (n : Set) (a b : Option ℕ) → halves a b ≡ Some n → (a ≡ Some n.low) × (b ≡ Some n.high)
+both_halves n (Some l) (Some h) e =
+    let q : ◌≡◌ {A = Set} (record { low = l; high = h }) n = cc in (ap (λ m. Some m.low) q, ap (λ m. Some m.high) q)
+both_halves n (Some l) None e = absurd (bad_set e)
+both_halves n None b e = absurd (bad_set e)
 
 -- what a field that is read as a set says
 record Said (k : ℕ) (s : List ℕ) (n : Set) : Type 0 where
   pub long : length s ≡ k
   pub most : k ≤ 32
-  pub low : scan 16 0 (drop (high_digits k) s) ≡ number.Is n.low
-  pub high : scan 16 0 (take (high_digits k) s) ≡ number.Is n.high
+  pub low : scan 16 0 (drop (high_digits k) s) ≡ Some n.low
+  pub high : scan 16 0 (take (high_digits k) s) ≡ Some n.high
   pub lows : length (drop (high_digits k) s) ≡ low_digits k
   pub highs : length (take (high_digits k) s) ≡ high_digits k
 
-said : (k : ℕ) (s : List ℕ) (n : Set) → read_set k s ≡ Is n → Said k s n
+said : (k : ℕ) (s : List ℕ) (n : Set) → read_set k s ≡ Some n → Said k s n
 unfolding read_set
 said k s n u =
     let t = picked (eqb (length s) k) bad_set u in
@@ -86,11 +85,11 @@ said k s n u =
     }
 
 -- a field that is read as a set has k digits
-pub set_length : (k : ℕ) (s : List ℕ) (n : Set) → read_set k s ≡ Is n → length s ≡ k
+pub set_length : (k : ℕ) (s : List ℕ) (n : Set) → read_set k s ≡ Some n → length s ≡ k
 set_length k s n u = (said k s n u).long
 
 -- a field that is read as a set is the text of that set, which its k digits hold
-pub set_text_read : (k : ℕ) (s : List ℕ) (n : Set) → read_set k s ≡ Is n → (set_text k n ≡ s) × Held k n
+pub set_text_read : (k : ℕ) (s : List ℕ) (n : Set) → read_set k s ≡ Some n → (set_text k n ≡ s) × Held k n
 unfolding set_text
 set_text_read k s n u =
     let r = said k s n u in
@@ -117,7 +116,7 @@ high_bit n i =
     rw (sixteens (i / 4), shr-shr n (4 * (i / 4)) (i % 4), div-add-mod i 4)
 
 -- bit i of the value of some digits is bit i % 4 of the one that stands before the last i / 4
-half_digit : (s : List ℕ) (n i : ℕ) → scan 16 0 s ≡ number.Is n → i < 4 * length s → bit n i ≡ bit (value_of (get_or s (length s - 1 - i / 4) 0)) (i % 4)
+half_digit : (s : List ℕ) (n i : ℕ) → scan 16 0 s ≡ Some n → i < 4 * length s → bit n i ≡ bit (value_of (get_or s (length s - 1 - i / 4) 0)) (i % 4)
 half_digit s n i u h =
     let q : i / 4 < length s = (div-lt_iff_lt-mul {k = 4} {x = i} {y = length s} (omega arith)).1 (omega arith) in
     let r : i % 4 < 4 = mod-lt i (omega arith) in
@@ -142,7 +141,7 @@ high_digit k q h l = omega arith
 high_among : (k q : ℕ) → 16 ≤ q → q < k → k - 1 - q < high_digits k
 high_among k q h l = omega arith
 
-module _ (k : ℕ) (s : List ℕ) (n : Set) (i : ℕ) (u : read_set k s ≡ Is n) where
+module _ (k : ℕ) (s : List ℕ) (n : Set) (i : ℕ) (u : read_set k s ≡ Some n) where
   -- member i, counted from the low end, is bit i % 4 of the digit that stands before the last i / 4
   pub member_digit : i < 4 * k → member n i ≡ bit (value_of (get_or s (k - 1 - i / 4) 0)) (i % 4)
   member_digit h =

@@ -1,6 +1,6 @@
 -- A text looked for at a place: part after part, and up to the newline of its line; and how bytes and digits are compared one by one.
 use Prim.Native.Nat.{ℕ, suc, ◌+◌, ◌-◌, ◌/◌, ◌%◌, ◌≤◌, ◌<◌}
-use mathlib.Core.Bool.{Bool, true, false, not, ◌&&◌}
+use mathlib.Core.Bool.{Bool, true, false, ◌&&◌}
 use mathlib.Core.Path.{◌≡◌, refl, sym, ap, subst, ◌∙◌}
 use mathlib.Core.List.{List, [], ◌∷◌, ◌++◌, append-nil, append_assoc}
 use native.Mathlib.Omega.{arith}
@@ -8,7 +8,7 @@ use native.Mathlib.Numerals.{add-one}
 use lib.Dec.{leb, ltb, eqb}
 use lib.ListN.{length, get_or, take, drop, drop_of_length-le}
 use lib.Seq.{drop-cons}
-use borrow.Author.Tests.{lt-ltb, le-ltb, leb-false, not-true, eq-eqb, ne_eqb, eqb-true, eqb-false}
+use borrow.Author.Tests.{lt-ltb, le-ltb, leb-false, eq-eqb, ne_eqb, eqb-true, eqb-false}
 use Rattle.text.specs.Parts.{pick, free, before, first_at}
 use Rattle.text.specs.Digits.{glyph_of, pad}
 use Rattle.text.specs.Words.{same_list}
@@ -73,32 +73,21 @@ past_other s at (x ∷ a) g t n =
 
 -- what the test for room says of a text of so many bytes
 module _ (s : List ℕ) (at : ℕ) (t : List ℕ) (many : ℕ) (fit : Bool) (e : fit ≡ leb (at + many) (length s)) (l : length t ≡ many) (h : at ≤ length s) where
-  pub past_none : not fit ≡ true → length s ≡ past s at t
-  past_none n = let k : length s < at + many = leb-false (at + many) (length s) (sym e ∙ not-true fit n) in past_short s at t h (omega arith)
+  pub past_none : fit ≡ false → length s ≡ past s at t
+  past_none n = let k : length s < at + many = leb-false (at + many) (length s) (sym e ∙ n) in past_short s at t h (omega arith)
 
 -- Bytes, compared one after another: where all before were alike, those left decide.
-module _ (s : List ℕ) (at : ℕ) (t : List ℕ) where
-  pub compare_start : past s at t ≡ past s (at + 0) t
-  compare_start = let z : at + 0 ≡ at = omega arith in rw z
+module _ (s : List ℕ) (at : ℕ) (t : List ℕ) (alike : Bool) (i : ℕ) (now : past s at t ≡ pick alike (past s (at + i) (drop i t)) (length s)) where
+  pub compare_more : i < length t → at + length t ≤ length s → past s at t ≡ pick (alike && eqb (get_or s (at + i) 0) (get_or t i 0)) (past s (at + (i + 1)) (drop (i + 1) t)) (length s)
+  unfolding past
+  compare_more h l =
+      let q : past s (at + i) (drop i t) ≡ pick (eqb (get_or s (at + i) 0) (get_or t i 0)) (past s (at + i + 1) (drop (i + 1) t)) (length s) = rw (drop-cons t i 0 h, at_is s (at + i) (get_or t i 0) (omega arith), add-one i) in
+      let z : at + i + 1 ≡ at + (i + 1) = omega arith in
+      now ∙ cases alike (λ y. rw (y, q, z)) (λ y. rw y)
 
-  module _ (alike : Bool) (i : ℕ) (now : past s at t ≡ pick alike (past s (at + i) (drop i t)) (length s)) where
-    pub compare_more : i < length t → at + length t ≤ length s → past s at t ≡ pick (alike && eqb (get_or s (at + i) 0) (get_or t i 0)) (past s (at + (i + 1)) (drop (i + 1) t)) (length s)
-    unfolding past
-    compare_more h l =
-        let q : past s (at + i) (drop i t) ≡ pick (eqb (get_or s (at + i) 0) (get_or t i 0)) (past s (at + i + 1) (drop (i + 1) t)) (length s) = rw (drop-cons t i 0 h, at_is s (at + i) (get_or t i 0) (omega arith), add-one i) in
-        let z : at + i + 1 ≡ at + (i + 1) = omega arith in
-        now ∙ cases alike (λ y. rw (y, q, z)) (λ y. rw y)
-
-    module _ (h : length t ≤ i) where
-      ends : past s at t ≡ pick alike (at + i) (length s)
-      unfolding past
-      ends = rw (drop_of_length-le t h) at now
-
-      pub compare_alike : alike ≡ true → at + i ≡ past s at t
-      compare_alike y = sym (rw y at ends)
-
-      pub compare_other : alike ≡ false → length s ≡ past s at t
-      compare_other y = sym (rw y at ends)
+  pub compare_alike : i ≡ length t → alike ≡ true → at + length t ≡ past s at t
+  unfolding past
+  compare_alike h y = let l : length t ≤ i = omega arith in sym (rw (drop_of_length-le t l, h, y) at now)
 
 -- Digits, compared from the last on: those behind place j stand.
 pub record Behind (s : List ℕ) (at base k n left j : ℕ) : Type 0 where
@@ -112,13 +101,6 @@ unfolding past
 behind_all s at base k n = record { rest = []; split = sym (append-nil (pad base k n)); stands = refl; most = omega arith }
 
 module _ {s : List ℕ} {at base k n left j : ℕ} (B : Behind s at base k n left j) where
-  pub behind_none : j ≤ 0 → at + k ≡ past s at (pad base k n)
-  behind_none h =
-      let z : j ≡ 0 = omega arith in
-      let q : pad base k n ≡ B.rest = rw z at B.split in
-      let a : at + 0 ≡ at = omega arith in
-      sym (rw (← q, z, a) at B.stands)
-
   module _ (h : 0 < j) where
     one_less : pad base k n ≡ pad base (j - 1) (left / base) ++ glyph_of (left % base) ∷ B.rest
     one_less =

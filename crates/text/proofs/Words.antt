@@ -5,30 +5,21 @@ use mathlib.Core.List.{List, [], ◌∷◌}
 use mathlib.Core.Bool.{true, false}
 use native.Mathlib.Omega.{arith}
 use lib.ListN.{length, get_or, get_or-eq_default}
-use lib.Dec.{eqb}
-use borrow.Author.Tests.{eq-eqb, eqb-true}
+use Rattle.std.specs.Prelude.{Some, None}
+use Rattle.std.proofs.lemmas.Option.{none-some}
+use Rattle.std.proofs.lemmas.Slice.Eq.{bytes_eq-Decides}
 use Rattle.text.specs.Parts.{split_on, field_at}
 use Rattle.text.specs.Words.{same_list, index_from, word_in, word_at, none, distinct}
-use Rattle.text.specs.declared.Word.TheVariants.{Is}
-use Rattle.text.specs.declared.Field.TheVariants.{At, Absent}
 use Rattle.text.proofs.Parts.{Stands, field_part, field_absent}
 use Rattle.text.proofs.Picks.{cases, picked, passed, false_true}
 
 -- a list is the same as itself
 pub same_self : (a : List ℕ) → same_list a a ≡ true
-same_self [] = refl
-same_self (x ∷ xs) = rw (eq-eqb x x refl, same_self xs)
+same_self a = (bytes_eq-Decides a a).1 refl
 
 -- and as no other
 pub same_list_lem : (a b : List ℕ) → same_list a b ≡ true → a ≡ b
-same_list_lem [] [] h = refl
-same_list_lem [] (y ∷ ys) h = absurd (false_true h)
-same_list_lem (x ∷ xs) [] h = absurd (false_true h)
-same_list_lem (x ∷ xs) (y ∷ ys) h =
-    let t = picked (eqb x y) false_true h in
-    let p = eqb-true x y t.0 in
-    let q = same_list_lem xs ys t.1 in
-    cc
+same_list_lem a b h = (bytes_eq-Decides a b).0 h
 
 -- what was found: the word there, counted from k, is p
 record Found (k i : ℕ) (p : List ℕ) (ws : List (List ℕ)) : Type 0 where
@@ -36,12 +27,12 @@ record Found (k i : ℕ) (p : List ℕ) (ws : List (List ℕ)) : Type 0 where
   there : get_or ws (i - k) [] ≡ p
   inside : i - k < length ws
 
-index_found : (ws : List (List ℕ)) (p : List ℕ) (k i : ℕ) → index_from k p ws ≡ Is i → Found k i p ws
-index_found [] p k i u = let z : ◌≡◌ {A = ℕ} 0 1 = cc in absurd (omega arith)
+index_found : (ws : List (List ℕ)) (p : List ℕ) (k i : ℕ) → index_from k p ws ≡ Some i → Found k i p ws
+index_found [] p k i u = absurd (none-some _ u)
 index_found (w ∷ ws) p k i u =
     cases (same_list p w) (λ e. here e (rw e at u)) (λ e. later (index_found ws p (suc k) i (rw e at u)))
   where
-    here : same_list p w ≡ true → Is k ≡ Is i → Found k i p (w ∷ ws)
+    here : same_list p w ≡ true → Some k ≡ Some i → Found k i p (w ∷ ws)
     here e v =
         let j : k ≡ i = cc in
         let q : i - k ≡ 0 = omega arith in
@@ -54,7 +45,7 @@ index_found (w ∷ ws) p k i u =
         record { from = omega arith; there = rw q r.there; inside = omega (arith, r.inside) }
 
 -- a word that was read is the word of that number, and the set has it
-pub word_read : (words p : List ℕ) (i : ℕ) → word_in words p ≡ Is i → (word_at words i ≡ p) × (i < length (split_on 9 words))
+pub word_read : (words p : List ℕ) (i : ℕ) → word_in words p ≡ Some i → (word_at words i ≡ p) × (i < length (split_on 9 words))
 unfolding word_in word_at
 word_read words p i u =
     let r = index_found (split_on 9 words) p 0 i u in
@@ -71,7 +62,7 @@ other (v ∷ ws) w zero h l =
     (λ e. e)
 other (v ∷ ws) w (suc i) h l = other ws w i (passed (same_list w v) false_true h).1 (omega arith)
 
-index_written : (ws : List (List ℕ)) (k i : ℕ) → distinct ws ≡ true → i < length ws → index_from k (get_or ws i []) ws ≡ Is (k + i)
+index_written : (ws : List (List ℕ)) (k i : ℕ) → distinct ws ≡ true → i < length ws → index_from k (get_or ws i []) ws ≡ Some (k + i)
 index_written [] k i h l = absurd (omega arith)
 index_written (w ∷ ws) k zero h l = let e : k ≡ k + 0 = omega arith in rw (same_self w, ← e)
 index_written (w ∷ ws) k (suc i) h l =
@@ -80,16 +71,16 @@ index_written (w ∷ ws) k (suc i) h l =
     rw (other ws w i t.0 (omega arith), index_written ws (suc k) i t.1 (omega arith), e)
 
 -- where no two words are alike, a word of the set is read as its number
-pub word_written : (words : List ℕ) (i : ℕ) → distinct (split_on 9 words) ≡ true → i < length (split_on 9 words) → word_in words (word_at words i) ≡ Is i
+pub word_written : (words : List ℕ) (i : ℕ) → distinct (split_on 9 words) ≡ true → i < length (split_on 9 words) → word_in words (word_at words i) ≡ Some i
 unfolding word_in word_at
-word_written words i h l = let e : 0 + i ≡ i = omega arith in index_written (split_on 9 words) 0 i h l ∙ ap Is e
+word_written words i h l = let e : 0 + i ≡ i = omega arith in index_written (split_on 9 words) 0 i h l ∙ ap Some e
 
 -- a word stands where the field of its number does
-pub word_stands : (words : List ℕ) (i a e : ℕ) → field_at words i ≡ At a e → Stands words a e (word_at words i)
+pub word_stands : (words : List ℕ) (i a e : ℕ) → field_at words i ≡ Some (a, e) → Stands words a e (word_at words i)
 unfolding word_at
 word_stands words i a e u = field_part words i a e u
 
 -- past the last word there is nothing
-pub word_past : (words : List ℕ) (i : ℕ) → field_at words i ≡ Absent → word_at words i ≡ []
+pub word_past : (words : List ℕ) (i : ℕ) → field_at words i ≡ None → word_at words i ≡ []
 unfolding word_at
 word_past words i u = get_or-eq_default (split_on 9 words) [] (field_absent words i u)

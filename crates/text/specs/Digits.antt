@@ -1,8 +1,6 @@
 -- Digits of a base up to sixteen, lower case, the highest first: what numbers and sets share.
-use Rattle.std.specs.Prelude.{ℕ, zero, suc, ◌+◌, ◌-◌, ◌*◌, ◌/◌, ◌%◌, List, [], ◌∷◌, ◌++◌, ltb}
+use Rattle.std.specs.Prelude.{ℕ, zero, suc, ◌+◌, ◌-◌, ◌*◌, ◌/◌, ◌%◌, List, [], ◌∷◌, ◌++◌, ltb, Option, Some, None}
 use Rattle.text.specs.Parts.{pick}
-use Rattle.text.specs.declared.Number.{Number}
-use Rattle.text.specs.declared.Number.TheVariants.{Is, Bad}
 
 -- the byte of a digit: 0 to 9, then a to f
 abbrev pub glyph_of : ℕ → ℕ
@@ -16,10 +14,10 @@ value_of b =
     (pick (ltb b 97) 16
     (pick (ltb b 103) (b - 87) 16)))
 
--- the value of a run of digits after v; Bad where a byte is no digit of the base
-abbrev pub scan : ℕ → ℕ → List ℕ → Number
-scan base v [] = Is v
-scan base v (b ∷ bs) = pick (ltb (value_of b) base) (scan base (v * base + value_of b) bs) Bad
+-- the value of a run of digits after v; None where a byte is no digit of the base
+abbrev pub scan : ℕ → ℕ → List ℕ → Option ℕ
+scan base v [] = Some v
+scan base v (b ∷ bs) = pick (ltb (value_of b) base) (scan base (v * base + value_of b) bs) None
 
 -- the k low digits of n
 abbrev pub pad : ℕ → ℕ → ℕ → List ℕ

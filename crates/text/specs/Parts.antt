@@ -1,8 +1,6 @@
 -- "One record a line, fields parted by one tab, each line ended by a newline."
 -- A text cut at each byte c into parts, and put together again: c is the newline for lines and the tab for fields.
-use Rattle.std.specs.Prelude.{ℕ, zero, suc, ◌+◌, List, [], ◌∷◌, ◌++◌, Bool, true, false, length, drop, eqb, ltb}
-use Rattle.text.specs.declared.Field.{Field}
-use Rattle.text.specs.declared.Field.TheVariants.{At, Absent}
+use Rattle.std.specs.Prelude.{ℕ, zero, suc, ◌+◌, List, [], ◌∷◌, ◌++◌, Bool, true, false, length, drop, eqb, ltb, Option, Some, None}
 
 -- the first of two where the test holds, else the second
 abbrev pub pick {ℓ} : {A : Type ℓ} → Bool → A → A → A
@@ -47,11 +45,11 @@ abbrev pub parts_from : ℕ → List ℕ → ℕ → List (List ℕ)
 parts_from c s at = pick (ltb (length s) at) [] (split_on c (drop at s))
 
 -- where part i of these starts and ends, the first of them starting at a place
-abbrev pub field_from : ℕ → List (List ℕ) → ℕ → Field
-field_from at [] i = Absent
-field_from at (p ∷ ps) zero = At at (at + length p)
+abbrev pub field_from : ℕ → List (List ℕ) → ℕ → Option (ℕ × ℕ)
+field_from at [] i = None
+field_from at (p ∷ ps) zero = Some (at, at + length p)
 field_from at (p ∷ ps) (suc i) = field_from (at + length p + 1) ps i
 
 -- where field i of a line starts and ends
-unfoldable pub field_at : List ℕ → ℕ → Field
+unfoldable pub field_at : List ℕ → ℕ → Option (ℕ × ℕ)
 field_at s i = field_from 0 (split_on 9 s) i

@@ -1,14 +1,10 @@
 -- "A set is sixteen lower-case hex digits; bit i, counted from the low end, is activity i."
 -- Stated over the number of digits. A set has room for 128 members: the first 64 are the bits of its low half, which the last sixteen
 -- digits write, and the others are the bits of its high half.
-use Rattle.std.specs.Prelude.{ℕ, zero, suc, ◌+◌, ◌-◌, ◌/◌, ◌%◌, ◌^◌, List, ◌++◌, Bool, true, false, length, take, drop, eqb, ltb, leb}
+use Rattle.std.specs.Prelude.{ℕ, zero, suc, ◌+◌, ◌-◌, ◌/◌, ◌%◌, ◌^◌, List, ◌++◌, Bool, true, false, length, take, drop, eqb, ltb, leb, Option, Some, None}
 use Rattle.text.specs.Parts.{pick}
 use Rattle.text.specs.Digits.{scan, pad}
-use Rattle.text.specs.declared.Number.{Number}
-use Rattle.text.specs.declared.Number.TheVariants as number
 use Rattle.text.specs.declared.Set.{Set}
-use Rattle.text.specs.declared.SetField.{SetField}
-use Rattle.text.specs.declared.SetField.TheVariants.{Is, Bad}
 
 -- how many members a set has room for, and how many members and digits each of its halves has
 abbrev pub set_room : ℕ
@@ -28,17 +24,17 @@ abbrev pub low_digits : ℕ → ℕ
 low_digits k = k - high_digits k
 
 -- the set of two halves, where both have good form
-abbrev pub halves : Number → Number → SetField
-halves (number.Is low) (number.Is high) = Is (record { low = low; high = high })
-halves (number.Is low) number.Bad = Bad
-halves number.Bad n = Bad
+abbrev pub halves : Option ℕ → Option ℕ → Option Set
+halves (Some low) (Some high) = Some (record { low = low; high = high })
+halves (Some low) None = None
+halves None n = None
 
 -- what a field says as a set of exactly k digits; none has more than the two halves
-unfoldable pub read_set : ℕ → List ℕ → SetField
+unfoldable pub read_set : ℕ → List ℕ → Option Set
 read_set k s =
     pick (eqb (length s) k)
-    (pick (ltb (half_digits + half_digits) k) Bad (halves (scan 16 0 (drop (high_digits k) s)) (scan 16 0 (take (high_digits k) s))))
-    Bad
+    (pick (ltb (half_digits + half_digits) k) None (halves (scan 16 0 (drop (high_digits k) s)) (scan 16 0 (take (high_digits k) s))))
+    None
 
 -- the text of a set over k digits
 unfoldable pub set_text : ℕ → Set → List ℕ

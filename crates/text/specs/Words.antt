@@ -1,22 +1,18 @@
 -- A word of a small set: the set is a line whose fields are its words.
-use Rattle.std.specs.Prelude.{ℕ, suc, List, [], ◌∷◌, Bool, true, false, get_or, eqb}
+use Rattle.std.specs.Prelude.{ℕ, suc, List, [], ◌∷◌, Bool, true, false, get_or, bytes_eq, Option, Some, None}
 use Rattle.text.specs.Parts.{pick, split_on}
-use Rattle.text.specs.declared.Word.{Word}
-use Rattle.text.specs.declared.Word.TheVariants.{Is, Unknown}
 
+-- the two are the same bytes
 abbrev pub same_list : List ℕ → List ℕ → Bool
-same_list [] [] = true
-same_list [] (y ∷ ys) = false
-same_list (x ∷ xs) [] = false
-same_list (x ∷ xs) (y ∷ ys) = pick (eqb x y) (same_list xs ys) false
+same_list p q = bytes_eq p q
 
 -- the first of the words that p is, the first of them counted as k
-abbrev pub index_from : ℕ → List ℕ → List (List ℕ) → Word
-index_from k p [] = Unknown
-index_from k p (w ∷ ws) = pick (same_list p w) (Is k) (index_from (suc k) p ws)
+abbrev pub index_from : ℕ → List ℕ → List (List ℕ) → Option ℕ
+index_from k p [] = None
+index_from k p (w ∷ ws) = pick (same_list p w) (Some k) (index_from (suc k) p ws)
 
 -- which word of the set p is
-unfoldable pub word_in : List ℕ → List ℕ → Word
+unfoldable pub word_in : List ℕ → List ℕ → Option ℕ
 word_in words p = index_from 0 p (split_on 9 words)
 
 -- word i of the set; nothing past the last

@@ -1,22 +1,22 @@
 // Bytes: the numbers, sets, words, lines and fields of which tables, logs and reports are made.
 #![tactic(auto)]
 
-ghost use Rattle.std.specs.Prelude.{◌≡◌, ◌+◌, ◌-◌, ◌<◌, ◌≤◌, ◌^◌, length, drop, leb};
+ghost use Rattle.std.specs.Prelude.{◌≡◌, ◌+◌, ◌-◌, ◌<◌, ◌≤◌, ◌^◌, length, drop, leb, SomeIff};
 ghost use Rattle.std.proofs.lemmas.List.Edits.{sets};
 ghost use Rattle.text.specs.Parts.{first_at, field_at};
 ghost use Rattle.text.specs.Digits.{glyph_of, value_of, scan, pad};
 ghost use Rattle.text.specs.Number.{read_number, width_of, digits};
 ghost use Rattle.text.specs.Set.{bit, member, read_set, set_text, bits_between, between};
-ghost use Rattle.text.specs.Words.{same_list, word_in, word_at};
+ghost use Rattle.text.specs.Words.{word_in, word_at};
 ghost use Rattle.text.specs.Fields.{read_target};
 ghost use Rattle.text.specs.Put.{Put};
 ghost use Rattle.text.specs.Standing.{past};
 
 // The byte that parts the fields of a line.
-pub const TAB: u8 = 9;
+pub const TAB: u8 = b'\t';
 
 // The byte that ends a line.
-pub const NEWLINE: u8 = 10;
+pub const NEWLINE: u8 = b'\n';
 
 // How many members a set has room for: each is below this number.
 const SET_ROOM: usize = 128;
@@ -35,13 +35,6 @@ pub const ETHER: u64 = 10000000000;
 // No number of more digits is read, so that each fits.
 const WIDEST: usize = 19;
 
-// What a field says as a number: its value, or bad form.
-#[derive(Clone, Copy)]
-pub enum Number {
-    Is(u64),
-    Bad,
-}
-
 // A set: its first members are the bits of the low half, counted from the low end, and those from 64 on are the bits of the high half.
 #[derive(Clone, Copy)]
 pub struct Set {
@@ -49,101 +42,53 @@ pub struct Set {
     pub high: u64,
 }
 
-// What a field says as a set: which one, or bad form.
-#[derive(Clone, Copy)]
-pub enum SetField {
-    Is(Set),
-    Bad,
-}
-
-// Which word of a set a field is, if it is one.
-#[derive(Clone, Copy)]
-pub enum Word {
-    Is(usize),
-    Unknown,
-}
-
-// Where a field of a line starts and ends, if the line has it.
-#[derive(Clone, Copy)]
-pub enum Field {
-    At(usize, usize),
-    Absent,
-}
-
-// A field's value and where it ends, or bad form.
-#[derive(Clone, Copy)]
-pub enum Got {
-    Is(u64, usize),
-    Bad,
-}
-
-// The digit of a byte, or 16.
-fn value(b: u8) -> u64
-    ensures { result ≡ value_of b }
-{
-    if b < 48 {
-        return 16;
-    }
-    if b < 58 {
-        return (b - 48) as u64;
-    }
-    if b < 97 {
-        return 16;
-    }
-    if b < 103 {
-        return (b - 87) as u64;
-    }
-    16
-}
-
 // The byte of a digit.
 fn glyph(d: u64) -> u8
     requires { d < 16 }
     ensures { result ≡ glyph_of d }
 {
-    if d < 10 {
-        return (48 + d) as u8;
+    match d {
+        0..=9 => b'0' + d as u8,
+        _ => b'a' + (d as u8 - 10),
     }
-    (87 + d) as u8
+}
+
+// What a byte says as a digit of a base.
+fn digit(b: u8, base: u64) -> Option<u64>
+    requires { base ≤ 16 }
+    ensures { SomeIff result (value_of b < base) (value_of b) }
+{
+    let d = match b {
+        b'0'..=b'9' => b - b'0',
+        b'a'..=b'f' => b - b'a' + 10,
+        _ => return None,
+    };
+    (u64::from(d) < base).then_some(u64::from(d))
 }
 
 // The value of the digits that a field is made of.
-fn read_digits(s: &[u8], base: u64) -> Number
-    requires { (0 < base) × (base ^ length s.now ≤ 18446744073709551616) }
+fn read_digits(s: &[u8], base: u64) -> Option<u64>
+    requires { (0 < base) × (base ≤ 16) × (base ^ length s.now ≤ 18446744073709551616) }
     ensures { result ≡ scan base 0 s.now }
 {
     let mut v: u64 = 0;
-    let mut i = 0;
-    while i < s.len() {
-        let d = value(s[i]);
-        if base <= d {
-            return Number::Bad;
-        }
+    for b in s {
+        let d = digit(*b, base)?;
         v = v * base + d;
-        i += 1;
     }
-    Number::Is(v)
+    Some(v)
 }
 
 // What a field says as a decimal number of at most so many digits.
-pub fn read_number(s: &[u8], most: usize) -> Number
+pub fn read_number(s: &[u8], most: usize) -> Option<u64>
     ensures { result ≡ read_number most s.now }
 {
     let n = s.len();
-    if n == 0 {
-        return Number::Bad;
+    if n == 0 || most < n || WIDEST < n {
+        return None;
     }
-    if most < n {
-        return Number::Bad;
-    }
-    if WIDEST < n {
-        return Number::Bad;
-    }
-    if n == 1 {
-        return read_digits(s, 10);
-    }
-    if s[0] == 48 {
-        return Number::Bad;
+    if n != 1 && s[0] == b'0' {
+        return None;
     }
     read_digits(s, 10)
 }
@@ -152,18 +97,11 @@ pub fn read_number(s: &[u8], most: usize) -> Number
 fn past_zeros(s: &[u8]) -> usize
     ensures { (result ≤ length s.now) × (scan 16 0 (drop result s.now) ≡ scan 16 0 s.now) }
 {
-    let mut i = 0;
-    while i < s.len() {
-        if s[i] != 48 {
-            return i;
-        }
-        i += 1;
-    }
-    i
+    s.iter().position(|b| *b != b'0').unwrap_or(s.len())
 }
 
 // What the digits of a half say.
-fn read_half(s: &[u8]) -> Number
+fn read_half(s: &[u8]) -> Option<u64>
     requires { length s.now ≤ 16 }
     ensures { result ≡ scan 16 0 s.now }
 {
@@ -171,36 +109,17 @@ fn read_half(s: &[u8]) -> Number
     read_digits(&s[i..], 16)
 }
 
-// How much a number is above another; 0 where it is not.
-fn above(n: usize, m: usize) -> usize
-    ensures { result ≡ n - m }
-{
-    if n < m {
-        return 0;
-    }
-    n - m
-}
-
 // What a field says as a set of so many digits, at most thirty-two: the last sixteen are its low half.
-pub fn read_set(s: &[u8], digits: usize) -> SetField
+pub fn read_set(s: &[u8], digits: usize) -> Option<Set>
     ensures { result ≡ read_set digits s.now }
 {
-    if s.len() != digits {
-        return SetField::Bad;
+    if s.len() != digits || HALF_DIGITS + HALF_DIGITS < digits {
+        return None;
     }
-    if HALF_DIGITS + HALF_DIGITS < digits {
-        return SetField::Bad;
-    }
-    let cut = above(digits, HALF_DIGITS);
-    let Number::Is(low) = read_half(&s[cut..]) else {
-        return SetField::Bad;
-    };
-    let Number::Is(high) = read_half(&s[..cut]) else {
-        return SetField::Bad;
-    };
-    SetField::Is(Set {
-        low: low,
-        high: high,
+    let (high, low) = s.split_at(digits.saturating_sub(HALF_DIGITS));
+    Some(Set {
+        low: read_half(low)?,
+        high: read_half(high)?,
     })
 }
 
@@ -210,19 +129,6 @@ fn has_bit(n: u64, i: usize) -> bool
     ensures { result ≡ bit n i }
 {
     (n >> i) % 2 == 1
-}
-
-// Is i a member of a set?
-pub fn has_member(set: Set, i: usize) -> bool
-    ensures { result ≡ member set i }
-{
-    if i < HALF_ROOM {
-        return has_bit(set.low, i);
-    }
-    if i < SET_ROOM {
-        return has_bit(set.high, i - HALF_ROOM);
-    }
-    false
 }
 
 // Two to the k.
@@ -240,55 +146,51 @@ fn bits_between(n: u64, from: usize, to: usize) -> bool
     if n == 0 {
         return true;
     }
-    if HALF_ROOM <= from {
+    if HALF_ROOM <= from || n % power(from) != 0 {
         return false;
     }
-    if n % power(from) != 0 {
-        return false;
-    }
-    if HALF_ROOM <= to {
-        return true;
-    }
-    n < power(to)
+    HALF_ROOM <= to || n < power(to)
 }
 
-// Is each member of a set at least one number and below another?
-pub fn is_between(set: Set, from: usize, to: usize) -> bool
-    ensures { result ≡ between set from to }
-{
-    if !bits_between(set.low, from, to) {
-        return false;
+impl Set {
+    // Is i a member?
+    pub fn has_member(self, i: usize) -> bool
+        ensures { result ≡ member self i }
+    {
+        if i < HALF_ROOM {
+            return has_bit(self.low, i);
+        }
+        i < SET_ROOM && has_bit(self.high, i - HALF_ROOM)
     }
-    bits_between(set.high, above(from, HALF_ROOM), above(to, HALF_ROOM))
+
+    // Is each member at least one number and below another?
+    pub fn is_between(self, from: usize, to: usize) -> bool
+        ensures { result ≡ between self from to }
+    {
+        bits_between(self.low, from, to)
+            && bits_between(
+                self.high,
+                from.saturating_sub(HALF_ROOM),
+                to.saturating_sub(HALF_ROOM),
+            )
+    }
 }
 
 // How many digits a number has.
 pub fn width(n: u64) -> usize
     ensures { result ≡ width_of n }
 {
-    let mut w = 1;
-    let mut power: u64 = 10;
-    while w < WIDEST {
-        if n < power {
-            return w;
-        }
-        w += 1;
-        power *= 10;
+    if n < 10 {
+        return 1;
     }
-    if n < power {
-        return w;
-    }
-    w + 1
+    n.ilog10() as usize + 1
 }
 
 // Is there room for so many bytes at a place of a buffer of that length?
 pub fn fits(have: usize, at: usize, many: usize) -> bool
     ensures { result ≡ leb (at + many) have }
 {
-    if have < at {
-        return false;
-    }
-    many <= have - at
+    at <= have && many <= have - at
 }
 
 // Writes the k low digits of n from a place on.
@@ -297,9 +199,7 @@ fn put_digits(buf: &mut [u8], at: usize, base: u64, k: usize, n: u64)
     ensures { buf.new ≡ sets buf.old at (pad base k n) }
 {
     let mut left = n;
-    let mut j = k;
-    while 0 < j {
-        j -= 1;
+    for j in (0..k).rev() {
         buf[at + j] = glyph(left % base);
         left /= base;
     }
@@ -324,7 +224,7 @@ pub fn put_set(buf: &mut [u8], at: usize, digits: usize, set: Set) -> usize
     if !fits(buf.len(), at, digits) {
         return at;
     }
-    let cut = above(digits, HALF_DIGITS);
+    let cut = digits.saturating_sub(HALF_DIGITS);
     put_digits(buf, at, 16, cut, set.high);
     put_digits(buf, at + cut, 16, digits - cut, set.low);
     at + digits
@@ -337,37 +237,17 @@ pub fn put_bytes(buf: &mut [u8], at: usize, s: &[u8]) -> usize
     if !fits(buf.len(), at, s.len()) {
         return at;
     }
-    let mut i = 0;
-    while i < s.len() {
-        buf[at + i] = s[i];
-        i += 1;
-    }
-    at + i
-}
-
-// Are the two the same bytes?
-pub fn same(a: &[u8], b: &[u8]) -> bool
-    ensures { result ≡ same_list a.now b.now }
-{
-    if a.len() != b.len() {
-        return false;
-    }
-    let mut i = 0;
-    while i < a.len() {
-        if a[i] != b[i] {
-            return false;
-        }
-        i += 1;
-    }
-    true
+    let end = at + s.len();
+    buf[at..end].copy_from_slice(s);
+    end
 }
 
 // What a field says as a codel's number or `ether`.
-pub fn read_target(s: &[u8]) -> Number
+pub fn read_target(s: &[u8]) -> Option<u64>
     ensures { result ≡ read_target s.now }
 {
-    if same(s, b"ether") {
-        return Number::Is(ETHER);
+    if s == b"ether".as_slice() {
+        return Some(ETHER);
     }
     read_number(s, MOST_DIGITS)
 }
@@ -376,99 +256,74 @@ pub fn read_target(s: &[u8]) -> Number
 fn byte_behind(s: &[u8], at: usize, b: u8) -> usize
     ensures { result ≡ first_at s.now at b }
 {
-    let mut i = at;
-    while i < s.len() {
+    for i in at..s.len() {
         if s[i] == b {
             return i;
         }
-        i += 1;
     }
-    i
+    at.max(s.len())
 }
 
-// The place of the first b at or after a place, or the end: where a line or a field ends. Four bytes a turn while there are as many.
+// The place of the first b at or after a place, or the end: where a line or a field ends.
+// Four bytes a turn while there are as many: byte after byte took a sixth to a half more instructions on the fields and lines of a log.
 pub fn next_byte(s: &[u8], at: usize, b: u8) -> usize
     ensures { result ≡ first_at s.now at b }
 {
-    let most = above(s.len(), 3);
+    let most = s.len().saturating_sub(3);
     let mut i = at;
     while i < most {
-        if s[i] == b {
-            return i;
+        if let Some(k) = s[i..i + 4].iter().position(|x| *x == b) {
+            return i + k;
         }
-        i += 1;
-        if s[i] == b {
-            return i;
-        }
-        i += 1;
-        if s[i] == b {
-            return i;
-        }
-        i += 1;
-        if s[i] == b {
-            return i;
-        }
-        i += 1;
+        i += 4;
     }
     byte_behind(s, i, b)
 }
 
 // Where field i of a line stands.
-pub fn nth_field(line: &[u8], i: usize) -> Field
+pub fn nth_field(line: &[u8], i: usize) -> Option<(usize, usize)>
     ensures { result ≡ field_at line.now i }
 {
     let mut at = 0;
-    let mut left = i;
-    loop {
+    for _ in 0..i {
         let e = next_byte(line, at, TAB);
-        if left == 0 {
-            return Field::At(at, e);
-        }
         if line.len() <= e {
-            return Field::Absent;
+            return None;
         }
         at = e + 1;
-        left -= 1;
     }
+    Some((at, next_byte(line, at, TAB)))
 }
 
 // Which word of a set a field is; the set is a line whose fields are its words.
-pub fn word_in(words: &[u8], p: &[u8]) -> Word
+pub fn word_in(words: &[u8], p: &[u8]) -> Option<usize>
     ensures { result ≡ word_in words.now p.now }
 {
-    let mut at = 0;
-    let mut k = 0;
-    loop {
-        let e = next_byte(words, at, TAB);
-        if same(p, &words[at..e]) {
-            return Word::Is(k);
-        }
-        if words.len() <= e {
-            return Word::Unknown;
-        }
-        at = e + 1;
-        k += 1;
-    }
+    words.split(|b| *b == TAB).position(|word| p == word)
+}
+
+// Word i of a set; nothing past the last.
+fn word(words: &[u8], i: usize) -> &[u8]
+    ensures { result.now ≡ word_at words.now i }
+{
+    let Some((start, end)) = nth_field(words, i) else {
+        return &[];
+    };
+    &words[start..end]
 }
 
 // Writes word i of a set at a place, as `put_number` does a number; past the last word there is nothing to write.
 pub fn put_word(buf: &mut [u8], at: usize, words: &[u8], i: usize) -> usize
     ensures { Put buf.old at (word_at words.now i) result buf.new }
 {
-    let Field::At(a, e) = nth_field(words, i) else {
-        return at;
-    };
-    put_bytes(buf, at, &words[a..e])
+    put_bytes(buf, at, word(words, i))
 }
 
 // How long word i of a set is; past the last word 0.
 pub fn word_width(words: &[u8], i: usize) -> usize
     ensures { result ≡ length (word_at words.now i) }
 {
-    let Field::At(from, to) = nth_field(words, i) else {
-        return 0;
-    };
-    to - from
+    word(words, i).len()
 }
 
 // The place behind the k low digits of n where they stand at a place; the end where they do not.
@@ -480,9 +335,7 @@ fn past_digits(s: &[u8], at: usize, base: u64, k: usize, n: u64) -> usize
         return s.len();
     }
     let mut left = n;
-    let mut j = k;
-    while 0 < j {
-        j -= 1;
+    for j in (0..k).rev() {
         if s[at + j] != glyph(left % base) {
             return s.len();
         }
@@ -500,7 +353,7 @@ pub fn past_number(s: &[u8], at: usize, n: u64) -> usize
 }
 
 // The place behind bytes where they stand at a place; the end where they do not. All are compared, so that the compiler may compare many at
-// once.
+// once: `==`, which stops at the first that differs, took nearly twice the instructions on a row's sixteen zeros.
 pub fn past_bytes(s: &[u8], at: usize, word: &[u8]) -> usize
     requires { at ≤ length s.now }
     ensures { result ≡ past s.now at word.now }
@@ -509,13 +362,11 @@ pub fn past_bytes(s: &[u8], at: usize, word: &[u8]) -> usize
         return s.len();
     }
     let mut alike = true;
-    let mut i = 0;
-    while i < word.len() {
-        alike = alike & (s[at + i] == word[i]);
-        i += 1;
+    for (i, b) in word.iter().enumerate() {
+        alike &= s[at + i] == *b;
     }
     if alike {
-        return at + i;
+        return at + word.len();
     }
     s.len()
 }

@@ -12,7 +12,7 @@
 
 use std::io;
 use std::io::Write;
-use text::{Field, Number, Set, SetField, Word};
+use text::Set;
 
 // The longest answer.
 const ROOM: usize = 128;
@@ -20,66 +20,48 @@ const ROOM: usize = 128;
 // Field i of a line; nothing where the line has no such field.
 fn part(line: &[u8], i: usize) -> &[u8] {
     match text::nth_field(line, i) {
-        Field::At(a, e) => &line[a..e],
-        Field::Absent => &line[0..0],
+        Some((start, end)) => &line[start..end],
+        None => &[],
     }
 }
 
-fn number_case(line: &[u8], out: &mut [u8], at: usize) -> usize {
-    let Number::Is(most) = text::read_number(part(line, 2), 2) else {
-        return text::put_bytes(out, at, b"no case");
-    };
-    let Number::Is(n) = text::read_number(part(line, 3), most as usize) else {
-        return text::put_bytes(out, at, b"bad");
-    };
-    text::put_number(out, at, n)
+// Each case below writes its result at a place, and answers the place after it, or None where the line is no such case.
+
+fn number_case(line: &[u8], out: &mut [u8], at: usize) -> Option<usize> {
+    let most = text::read_number(part(line, 2), 2)?;
+    match text::read_number(part(line, 3), most as usize) {
+        Some(n) => Some(text::put_number(out, at, n)),
+        None => Some(text::put_bytes(out, at, b"bad")),
+    }
 }
 
 // The set of a case.
-fn set_of(line: &[u8]) -> SetField {
-    let Number::Is(digits) = text::read_number(part(line, 2), 2) else {
-        return SetField::Bad;
-    };
+fn set_of(line: &[u8]) -> Option<Set> {
+    let digits = text::read_number(part(line, 2), 2)?;
     text::read_set(part(line, 3), digits as usize)
 }
 
-fn set_case(line: &[u8], out: &mut [u8], at: usize) -> usize {
-    let SetField::Is(n) = set_of(line) else {
-        return text::put_bytes(out, at, b"bad");
+fn set_case(line: &[u8], out: &mut [u8], at: usize) -> Option<usize> {
+    let Some(n) = set_of(line) else {
+        return Some(text::put_bytes(out, at, b"bad"));
     };
     let p = text::put_number(out, at, n.low);
     let q = text::put_bytes(out, p, b" ");
-    text::put_number(out, q, n.high)
+    Some(text::put_number(out, q, n.high))
 }
 
-fn digits_case(line: &[u8], out: &mut [u8], at: usize) -> usize {
-    let SetField::Is(n) = set_of(line) else {
-        return text::put_bytes(out, at, b"no case");
-    };
+fn digits_case(line: &[u8], out: &mut [u8], at: usize) -> Option<usize> {
+    let n = set_of(line)?;
     let p = text::put_number(out, at, n.low);
     let q = text::put_bytes(out, p, b" of width ");
-    text::put_number(out, q, text::width(n.low) as u64)
+    Some(text::put_number(out, q, text::width(n.low) as u64))
 }
 
-fn hex_case(line: &[u8], out: &mut [u8], at: usize) -> usize {
-    let Number::Is(digits) = text::read_number(part(line, 2), 2) else {
-        return text::put_bytes(out, at, b"no case");
-    };
-    let Number::Is(low) = text::read_number(part(line, 3), 19) else {
-        return text::put_bytes(out, at, b"no case");
-    };
-    let Number::Is(high) = text::read_number(part(line, 4), 19) else {
-        return text::put_bytes(out, at, b"no case");
-    };
-    text::put_set(
-        out,
-        at,
-        digits as usize,
-        Set {
-            low: low,
-            high: high,
-        },
-    )
+fn hex_case(line: &[u8], out: &mut [u8], at: usize) -> Option<usize> {
+    let digits = text::read_number(part(line, 2), 2)?;
+    let low = text::read_number(part(line, 3), 19)?;
+    let high = text::read_number(part(line, 4), 19)?;
+    Some(text::put_set(out, at, digits as usize, Set { low, high }))
 }
 
 fn put_answer(out: &mut [u8], at: usize, yes: bool) -> usize {
@@ -89,64 +71,49 @@ fn put_answer(out: &mut [u8], at: usize, yes: bool) -> usize {
     text::put_bytes(out, at, b"no")
 }
 
-fn member_case(line: &[u8], out: &mut [u8], at: usize) -> usize {
-    let SetField::Is(n) = set_of(line) else {
-        return text::put_bytes(out, at, b"no case");
-    };
-    let Number::Is(i) = text::read_number(part(line, 4), 19) else {
-        return text::put_bytes(out, at, b"no case");
-    };
-    put_answer(out, at, text::has_member(n, i as usize))
+fn member_case(line: &[u8], out: &mut [u8], at: usize) -> Option<usize> {
+    let n = set_of(line)?;
+    let i = text::read_number(part(line, 4), 19)?;
+    Some(put_answer(out, at, n.has_member(i as usize)))
 }
 
-fn between_case(line: &[u8], out: &mut [u8], at: usize) -> usize {
-    let SetField::Is(n) = set_of(line) else {
-        return text::put_bytes(out, at, b"no case");
-    };
-    let Number::Is(from) = text::read_number(part(line, 4), 19) else {
-        return text::put_bytes(out, at, b"no case");
-    };
-    let Number::Is(to) = text::read_number(part(line, 5), 19) else {
-        return text::put_bytes(out, at, b"no case");
-    };
-    put_answer(out, at, text::is_between(n, from as usize, to as usize))
+fn between_case(line: &[u8], out: &mut [u8], at: usize) -> Option<usize> {
+    let n = set_of(line)?;
+    let from = text::read_number(part(line, 4), 19)?;
+    let to = text::read_number(part(line, 5), 19)?;
+    Some(put_answer(out, at, n.is_between(from as usize, to as usize)))
 }
 
-fn word_case(line: &[u8], out: &mut [u8], at: usize) -> usize {
+fn word_case(line: &[u8], out: &mut [u8], at: usize) -> Option<usize> {
     let words = b"start\tstop\tmain\trun\tpause\tether";
-    let Word::Is(k) = text::word_in(words, part(line, 2)) else {
-        return text::put_bytes(out, at, b"unknown");
+    let Some(k) = text::word_in(words, part(line, 2)) else {
+        return Some(text::put_bytes(out, at, b"unknown"));
     };
     let p = text::put_number(out, at, k as u64);
     let q = text::put_bytes(out, p, b" ");
-    text::put_word(out, q, words, k)
+    Some(text::put_word(out, q, words, k))
 }
 
-fn place_case(line: &[u8], out: &mut [u8], at: usize) -> usize {
-    let Field::At(a, e) = text::nth_field(line, 3) else {
-        return text::put_bytes(out, at, b"absent");
+fn place_case(line: &[u8], out: &mut [u8], at: usize) -> Option<usize> {
+    let Some((start, end)) = text::nth_field(line, 3) else {
+        return Some(text::put_bytes(out, at, b"absent"));
     };
-    let p = text::put_number(out, at, a as u64);
+    let p = text::put_number(out, at, start as u64);
     let q = text::put_bytes(out, p, b" to ");
-    text::put_number(out, q, e as u64)
+    Some(text::put_number(out, q, end as u64))
 }
 
-fn put_case(line: &[u8], out: &mut [u8], at: usize) -> usize {
-    let Word::Is(k) = text::word_in(
-        b"number\tset\tdigits\thex\tmember\tbetween\tword\tplace",
-        part(line, 0),
-    ) else {
-        return text::put_bytes(out, at, b"no case");
-    };
-    match k {
-        0 => number_case(line, out, at),
-        1 => set_case(line, out, at),
-        2 => digits_case(line, out, at),
-        3 => hex_case(line, out, at),
-        4 => member_case(line, out, at),
-        5 => between_case(line, out, at),
-        6 => word_case(line, out, at),
-        _ => place_case(line, out, at),
+fn put_case(line: &[u8], out: &mut [u8], at: usize) -> Option<usize> {
+    match part(line, 0) {
+        b"number" => number_case(line, out, at),
+        b"set" => set_case(line, out, at),
+        b"digits" => digits_case(line, out, at),
+        b"hex" => hex_case(line, out, at),
+        b"member" => member_case(line, out, at),
+        b"between" => between_case(line, out, at),
+        b"word" => word_case(line, out, at),
+        b"place" => place_case(line, out, at),
+        _ => None,
     }
 }
 
@@ -162,20 +129,17 @@ fn show<W: Write>(to: &mut W, line: &[u8]) -> io::Result<()> {
     let mut out = [0u8; ROOM];
     let p = text::put_bytes(&mut out, 0, part(line, 1));
     let q = text::put_bytes(&mut out, p, b"\t");
-    let r = put_case(line, &mut out, q);
+    let r = match put_case(line, &mut out, q) {
+        Some(r) => r,
+        None => text::put_bytes(&mut out, q, b"no case"),
+    };
     let e = text::put_bytes(&mut out, r, b"\n");
     write(to, &out, e)
 }
 
 fn run<W: Write>(to: &mut W, s: &[u8]) -> io::Result<()> {
-    let mut at = 0;
-    while at < s.len() {
-        let e = text::next_byte(s, at, text::NEWLINE);
-        show(to, &s[at..e])?;
-        if s.len() <= e {
-            return Ok(());
-        }
-        at = e + 1;
+    for line in s.split_inclusive(|b| *b == text::NEWLINE) {
+        show(to, line.strip_suffix(b"\n").unwrap_or(line))?;
     }
     Ok(())
 }

@@ -1,5 +1,5 @@
--- One law for each way through the tests of a wait, in the shape of what is known there.
-use mathlib.Core.Bool.{Bool, true, false, not}
+-- What the tasks asked so far say of a wait, in the shape of what is known there.
+use mathlib.Core.Bool.{Bool, true, false}
 use mathlib.Core.List.{List, map}
 use mathlib.Core.Path.{◌≡◌, refl, sym, ap, subst, ◌∙◌}
 use Prim.Native.Nat.{ℕ, ◌+◌, ◌≤◌, ◌<◌}
@@ -7,87 +7,21 @@ use native.Mathlib.Omega.{arith}
 use native.Mathlib.Numerals.{add-one}
 use lib.Dec.{leb, leb→le}
 use lib.ListN.{length, length-map}
-use borrow.Author.Tests.{le-leb, lt-leb, not-true, not-false}
+use borrow.Author.Tests.{le-leb, lt-leb}
 use Rattle.model.specs.Tests.{◌and◌, ◌or◌, each, some}
 use Rattle.text.specs.Fields.{ether_value}
-use Rattle.model.specs.Limits.{most_tasks, most_acts, most_ticks, in_range, ceiling}
-use Rattle.model.specs.Tables.{Table, safe}
+use Rattle.model.specs.Limits.{most_tasks, most_acts, most_ticks, in_range}
+use Rattle.model.specs.Tables.{Table}
 use Rattle.model.specs.States.{task_at, act_at}
 use Rattle.model.specs.Rules.{wait_refusal}
-use Rattle.model.specs.declared.Act.{Act}
 use Rattle.model.specs.declared.State.{State}
-use Rattle.model.specs.declared.Place.TheVariants.{Ether, Codel}
 use Rattle.model.specs.declared.Holder.TheVariants.{Manager, Activity}
 use Rattle.model.proofs.Tests.{T_true, true_T, and_r, some_mk, need_of}
 use Rattle.model.proofs.Formed.{Formed}
 use Rattle.model.proofs.Soundness.{Sound, holder_in}
-use Rattle.conflicts.specs.Busy.{busy_of, busy_in, clear_by}
+use Rattle.conflicts.specs.Busy.{busy_of, busy_in}
 use Rattle.waits.specs.Waits.{act_hinders, act_room, timer_room, wait_number}
 use Rattle.waits.proofs.Waits.{hinders_at, room_at, wait_by_holders}
-
--- a holder that hinders
-module _ (K : Table) (busy : List ℕ) (y : Act) where
-  pub hinders_halt : y.halt ≡ true → true ≡ act_hinders K busy y
-  hinders_halt e = rw e
-
-  module _ (e : y.halt ≡ false) where
-    pub hinders_ether : y.place ≡ Ether → true ≡ act_hinders K busy y
-    hinders_ether p = rw (e, p)
-
-    module _ (c : ℕ) (p : y.place ≡ Codel c) (r : Bool) (q : r ≡ safe K c) where
-      pub hinders_safe : r ≡ true → false ≡ act_hinders K busy y
-      hinders_safe f = rw (e, p, ← q, f)
-
-      pub hinders_runs : r ≡ false → y.executing ≡ true → false ≡ act_hinders K busy y
-      hinders_runs f x = rw (e, p, ← q, f, x)
-
-      pub hinders_stands : (b : Bool) → r ≡ false → y.executing ≡ false → b ≡ clear_by K busy c → b ≡ act_hinders K busy y
-      hinders_stands b f x i = rw (e, p, ← q, f, x) i
-
-pub ruleset hindrances = (hinders_halt, hinders_ether, hinders_safe, hinders_runs, hinders_stands)
-
--- a holder's room, and a task's
-module _ (K : Table) (d : ℕ) (y : Act) where
-  pub room_idle : not y.executing ≡ true → true ≡ act_room K d y
-  room_idle e = rw (not-true y.executing e)
-
-  module _ (e : not y.executing ≡ false) where
-    pub room_ether : y.place ≡ Ether → true ≡ act_room K d y
-    room_ether p = rw (not-false y.executing e, p)
-
-    pub room_codel : (c l : ℕ) → y.place ≡ Codel c → l ≡ K.limit c → leb (y.clock + d) l ≡ act_room K d y
-    room_codel c l p q = rw (not-false y.executing e, p, q)
-
-pub ruleset rooms = (room_idle, room_ether, room_codel)
-
--- a timer's room
-pub timer_fits_in : (K : Table) (d t timer n : ℕ) → n ≡ K.period t → leb (timer + d) n ≡ timer_room K d t timer
-timer_fits_in K d t timer n q = rw q
-
-pub range_fits : {d : ℕ} {r : Bool} → r ≡ in_range d → not r ≡ false → d ≤ most_ticks
-range_fits {d} {r} q e = leb→le d most_ticks (and_r (leb 1 d) _ (true_T _ (sym q ∙ not-false r e)))
-
--- the number of a wait
-module _ (free room : Bool) (date d : ℕ) {r : Bool} (q : r ≡ in_range d) where
-  pub number_range : not r ≡ true → 12 ≡ wait_number free room date d
-  number_range e = rw (← q, not-true r e)
-
-  module _ (e : not r ≡ false) where
-    pub number_hindered : not free ≡ true → 16 ≡ wait_number free room date d
-    number_hindered f = rw (← q, not-false r e, not-true free f)
-
-    module _ (f : not free ≡ false) where
-      pub number_full : not room ≡ true → 17 ≡ wait_number free room date d
-      number_full g = rw (← q, not-false r e, not-false free f, not-true room g)
-
-      module _ (g : not room ≡ false) where
-        pub number_late : ceiling < date + d → 18 ≡ wait_number free room date d
-        number_late l = rw (← q, not-false r e, not-false free f, not-false room g, lt-leb (date + d) ceiling l)
-
-        pub number_none : date + d ≤ ceiling → 0 ≡ wait_number free room date d
-        number_none l = rw (← q, not-false r e, not-false free f, not-false room g, le-leb (date + d) ceiling l)
-
-pub ruleset numbers = (number_range, number_hindered, number_full, number_late, number_none)
 
 and_true : (b : Bool) → (b and true) ≡ b
 and_true true = refl

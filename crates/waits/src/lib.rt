@@ -1,78 +1,67 @@
-// `wait`: what it asks of each task and its holder, and its number.
+// `wait`: what it asks of each task and its holder, and its refusal.
 #![tactic(auto)]
 
 ghost use Rattle.std.specs.Prelude.{◌≡◌, ◌<◌, ◌≤◌, length, T};
 ghost use Rattle.text.specs.Fields.{ether_value};
 ghost use Rattle.model.specs.Limits.{most_ticks, ceiling};
+ghost use Rattle.model.specs.Refusals.{numbered};
 ghost use Rattle.model.specs.Tables.{known};
-ghost use Rattle.prepared.specs.Prepared.{table_in, Prepared};
+ghost use Rattle.prepared.specs.Held.{held};
 ghost use Rattle.waits.specs.Waits.{act_hinders, act_room, timer_room, wait_number};
 
-use model::{Act, Place};
+use model::{Act, Place, Refusal};
+use prepared::Component;
 
 // 16 of a task whose holder is an activity: is it in R, at ether, or standing with no conflicting codel executing?
-pub fn act_hinders(rows: &[u32], index: &[u32], busy: &[usize], y: Act) -> bool
-    requires { Prepared rows.now index.now × T (known (table_in rows.now index.now) y.place) × ((table_in rows.now index.now).nacts ≤ length busy.now) }
-    ensures { result ≡ act_hinders (table_in rows.now index.now) busy.now y }
+pub fn act_hinders(component: &Component, busy: &[usize], act: Act) -> bool
+    requires { T (known (held component.now) act.place) × ((held component.now).nacts ≤ length busy.now) }
+    ensures { result ≡ act_hinders (held component.now) busy.now act }
 {
-    if y.halt {
-        return true;
-    }
-    let p = y.place;
-    match p {
-        Place::Ether => true,
-        Place::Codel(c) => {
-            if prepared::is_safe(rows, index, c) {
-                return false;
-            }
-            if y.executing {
-                return false;
-            }
-            conflicts::is_clear(rows, index, busy, c)
+    match act.place {
+        Place::Codel(codel) if !act.halt => {
+            !component.is_safe(codel)
+                && !act.executing
+                && conflicts::is_clear(component, busy, codel)
         }
+        _ => true,
     }
 }
 
 // 17 of a holder: does its clock, where it executes, stay within its codel's limit?
-pub fn act_room(rows: &[u32], index: &[u32], d: u64, y: Act) -> bool
-    requires { Prepared rows.now index.now × T (known (table_in rows.now index.now) y.place) × (y.clock ≤ most_ticks) × (d < ether_value) }
-    ensures { result ≡ act_room (table_in rows.now index.now) d y }
+pub fn act_room(component: &Component, ticks: u64, act: Act) -> bool
+    requires { T (known (held component.now) act.place) × (act.clock ≤ most_ticks) × (ticks < ether_value) }
+    ensures { result ≡ act_room (held component.now) ticks act }
 {
-    if !y.executing {
-        return true;
-    }
-    let p = y.place;
-    match p {
-        Place::Ether => true,
-        Place::Codel(c) => y.clock + d <= prepared::limit_of(rows, index, c),
+    match act.place {
+        Place::Codel(codel) if act.executing => act.clock + ticks <= component.limit_of(codel),
+        _ => true,
     }
 }
 
 // 17 of a task: does its timer stay within its period?
-pub fn timer_room(rows: &[u32], index: &[u32], d: u64, t: usize, timer: u64) -> bool
-    requires { Prepared rows.now index.now × (t < (table_in rows.now index.now).ntasks) × (timer ≤ most_ticks) × (d < ether_value) }
-    ensures { result ≡ timer_room (table_in rows.now index.now) d t timer }
+pub fn timer_room(component: &Component, ticks: u64, task: usize, timer: u64) -> bool
+    requires { (task < (held component.now).ntasks) × (timer ≤ most_ticks) × (ticks < ether_value) }
+    ensures { result ≡ timer_room (held component.now) ticks task timer }
 {
-    timer + d <= prepared::period_of(rows, index, t)
+    timer + ticks <= component.period_of(task)
 }
 
-// The number of a wait: 12 for ticks out of their range, 16 unless it is free of hindrance, 17 unless all have room, 18 where it would pass
-// the ceiling, 0 where it is accepted.
-pub fn wait_number(free: bool, room: bool, date: u64, d: u64) -> u64
+// Is a wait accepted? Not with ticks out of their range, only where it is free of hindrance and all have room, and not past the ceiling.
+pub fn check_wait(free: bool, room: bool, date: u64, ticks: u64) -> Result<(), Refusal>
     requires { date ≤ ceiling }
-    ensures { result ≡ wait_number free room date d }
+    ensures { numbered result ≡ wait_number free room date ticks }
 {
-    if !model::in_range(d) {
-        return 12;
+    if !model::in_range(ticks) {
+        return Err(Refusal::Unknown);
     }
     if !free {
-        return 16;
+        return Err(Refusal::StillEnabled);
     }
     if !room {
-        return 17;
+        return Err(Refusal::TooLate);
     }
-    if date + d <= model::CEILING {
-        return 0;
+    if date + ticks > model::CEILING {
+        return Err(Refusal::PastCeiling);
     }
-    18
+    Ok(())
 }

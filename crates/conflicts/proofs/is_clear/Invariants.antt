@@ -1,14 +1,8 @@
--- `is_clear` meets its contract. No codel that an activity before a executes conflicts with c.
-use Prim.Native.Nat.{◌≤◌, ◌-◌}
-use mathlib.Core.Bool.{true}
-use mathlib.Core.Path.{◌≡◌}
-use Rattle.model.specs.Tests.{each}
-use Rattle.prepared.specs.Prepared.{table_in}
+-- `is_clear` meets its contract. No codel that one of the activities before executes conflicts with this one.
+use Rattle.std.proofs.Common.{◌≡◌, ◌<◌, ℕ, true}
+use Rattle.prepared.specs.Held.{held}
 use Rattle.conflicts.proofs.Walking.{far_at}
 use Rattle.conflicts.proofs.is_clear.Given as goal
 
-abbrev pub invariant-loop-a : goal.invariant-loop-a
-invariant-loop-a l = (l.a ≤ l.na) × (each l.a (far_at (table_in l.rows l.index) l.busy l.c) ≡ true)
-
-abbrev pub decreases-loop-a : goal.decreases-loop-a
-decreases-loop-a l = l.na - l.a
+abbrev pub invariant-loop-other : goal.invariant-loop-other
+invariant-loop-other l = (k : ℕ) → k < l.other-index → far_at (held l.component) l.busy l.codel k ≡ true

@@ -1,11 +1,6 @@
 -- `number_at` meets its contract: behind the digits so far those left are spelled.
-use Prim.Native.Nat.{◌-◌}
-use lib.ListN.{length}
 use Rattle.fields.proofs.InPlace.{Spelling}
 use Rattle.fields.proofs.number_at.Given as goal
 
 abbrev pub invariant-loop-i : goal.invariant-loop-i
-invariant-loop-i l = Spelling l.s l.at l.v l.i
-
-abbrev pub decreases-loop-i : goal.decreases-loop-i
-decreases-loop-i l = length l.s - l.i
+invariant-loop-i l = Spelling l.s l.at l.value l.i

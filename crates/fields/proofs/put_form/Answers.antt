@@ -4,16 +4,16 @@ use Rattle.fields.specs.Forms.{manager_word}
 use Rattle.fields.proofs.Values.{put_holder, put_place, put_set, put_number}
 use Rattle.fields.proofs.put_form.Goals as goal
 
-pub returns-then-form-eq-A_HOLDER : goal.returns-then-form-eq-A_HOLDER
+pub returns-in-2 : goal.returns-in-2
 unfolding manager_word
-returns-then-form-eq-A_HOLDER c = search (put_holder)
+returns-in-2 c = search (put_holder)
 
-pub returns-then-form-eq-A_PLACE : goal.returns-then-form-eq-A_PLACE
+pub returns-in-4 : goal.returns-in-4
 unfolding ether_word
-returns-then-form-eq-A_PLACE c = search (put_place)
+returns-in-4 c = search (put_place)
 
-pub returns-then-form-eq-A_SET : goal.returns-then-form-eq-A_SET
-returns-then-form-eq-A_SET c = search (put_set)
+pub returns-in-3 : goal.returns-in-3
+returns-in-3 c = search (put_set)
 
-pub returns : goal.returns
-returns c = search (put_number)
+pub returns-in_default : goal.returns-in_default
+returns-in_default c = search (put_number)

@@ -2,19 +2,22 @@
 use mathlib.Core.Path.{refl, ◌∙◌}
 use borrow.Author.Rules.{rules}
 use Rattle.fields.proofs.InPlace.{set_few, set_other, set_empty, set_bad, set_taken}
+use Rattle.fields.proofs.set_at.Goals.{then-s-at-via-then-s-at, then-s-at-via-else-s-at+then-s-at-ne-TAB}
 use Rattle.fields.proofs.set_at.Goals as goal
 
-pub returns-then-p-s : goal.returns-then-p-s
-returns-then-p-s c = search (set_empty, rules)
+pub returns-then-empty-s : goal.returns-then-empty-s
+returns-then-empty-s c = search (set_empty, rules)
 
 pub returns-then-s-at : goal.returns-then-s-at
-returns-then-s-at c = c.unread.ensures ∙ search (set_few, rules)
+returns-then-s-at c =
+    c.unread.ensures
+    ∙ elim c.then-s-at.branch [
+      | then-s-at-via-then-s-at w ↦ set_few _ _ w.if-s-at.true
+      | then-s-at-via-else-s-at+then-s-at-ne-TAB w ↦ search (set_other, rules)
+    ]
 
-pub returns-then-s-at-ne-TAB : goal.returns-then-s-at-ne-TAB
-returns-then-s-at-ne-TAB c = c.unread-then-s-at-ne-TAB.ensures ∙ search (set_other, rules)
+pub returns-in-Some : goal.returns-in-Some
+returns-in-Some c = search (set_taken, rules)
 
-pub returns-in_default : goal.returns-in_default
-returns-in_default c = c.unread-in_default.ensures ∙ set_bad _ _ c.if-s-at.false c.if-s-at-ne-TAB.false refl c.read_set.ensures c.in_default.is
-
-pub returns : goal.returns
-returns c = search (set_taken, rules)
+pub returns-in-None : goal.returns-in-None
+returns-in-None c = c.unread-in-None.ensures ∙ set_bad _ _ c.if-s-at.false c.if-s-at-ne-TAB.false refl c.read_set.ensures c.in-None.is

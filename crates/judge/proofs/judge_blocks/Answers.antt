@@ -5,8 +5,8 @@ use Rattle.judge.proofs.Blocks.{reading_start, reading_more}
 use Rattle.judge.proofs.judge_blocks.Goals as goal
 
 pub loop-turns-init : goal.loop-turns-init
-loop-turns-init g c = reading_start _ _ _ _ _ c.requires.1 (length-replicate {A = ℕ} 172032 0) _ c.fresh_going-g.ensures
+loop-turns-init g c = reading_start _ _ _ _ _ c.requires.0 (length-replicate {A = ℕ} 172032 0) _ c.fresh_going-g.ensures
 
 pub loop-turns-preserved : goal.loop-turns-preserved
 loop-turns-preserved g c =
-    reading_more c.loop-turns.invariant c.requires.2 c.loop-turns-test.true c.requires.0 c.loop-turns.ended c.judge_block-turn.ensures _ (search rules) _ c.in_ok-got.ensures.fit
+    reading_more c.loop-turns.invariant c.requires.1 c.loop-turns-test.true c.args.component.now.prepared c.loop-turns.ended c.judge_block-turn.ensures _ (search rules) _ c.in_ok-got.ensures.fit

@@ -8,4 +8,4 @@ use Rattle.judge.proofs.main.Goals as goal
 pub judge_log-requires : goal.judge_log-requires
 judge_log-requires c =
     let opened = c.open_table-opened.ensures in
-    (opened_accepted opened c.if-opened.true, put_within opened.held, omega (arith, put_length opened.held))
+    (opened_accepted opened _ c.in-Some.is, put_within opened.held, omega (arith, put_length opened.held))

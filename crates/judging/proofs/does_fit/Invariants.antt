@@ -2,12 +2,12 @@
 -- of the report.
 use Prim.Native.Nat.{◌-◌}
 use lib.ListN.{length}
-use Rattle.prepared.specs.Prepared.{table_in}
+use Rattle.prepared.specs.Held.{held}
 use Rattle.judging.proofs.Reporting.{Fitting}
 use Rattle.judging.proofs.does_fit.Given as goal
 
-abbrev pub invariant-loop-scratch : goal.invariant-loop-scratch
-invariant-loop-scratch l = Fitting (table_in l.rows l.index) l.log l.room l.scratch l.g l.at l.filled l.width
+abbrev pub invariant-loop-width : goal.invariant-loop-width
+invariant-loop-width l = Fitting (held l.component) l.log l.room l.scratch l.going l.at l.filled l.width
 
-abbrev pub decreases-loop-scratch : goal.decreases-loop-scratch
-decreases-loop-scratch l = length l.log - l.at
+abbrev pub decreases-loop-width : goal.decreases-loop-width
+decreases-loop-width l = length l.log - l.at

@@ -1,30 +1,24 @@
 -- `read_step` meets its contract.
-use native.Mathlib.Omega.{arith}
-use Rattle.text.proofs.Seeking.{part_long}
 use Rattle.logs.proofs.Fielding.{given_bad, given_is}
-use Rattle.logs.proofs.Reading.{step_long, step_few, step_short, step_other, step_wait, step_two}
+use Rattle.logs.proofs.Reading.{step_long, step_few, step_other, step_wait, step_two}
+use Rattle.logs.proofs.read_step.Goals.{then-line-ge-LONGEST_LINE-via-then-line-ge-LONGEST_LINE, then-line-ge-LONGEST_LINE-via-else-line-ge-LONGEST_LINE+then-line-lt3}
 use Rattle.logs.proofs.read_step.Goals as goal
 
-pub returns-then-n-ge-LONGEST_LINE : goal.returns-then-n-ge-LONGEST_LINE
-returns-then-n-ge-LONGEST_LINE c = step_long _ _ (omega (arith, c.if-n-ge-LONGEST_LINE.true))
+pub returns-then-line-ge-LONGEST_LINE : goal.returns-then-line-ge-LONGEST_LINE
+returns-then-line-ge-LONGEST_LINE c =
+    elim c.then-line-ge-LONGEST_LINE.branch [
+      | then-line-ge-LONGEST_LINE-via-then-line-ge-LONGEST_LINE w ↦ step_long _ _ w.if-line-ge-LONGEST_LINE.true
+      | then-line-ge-LONGEST_LINE-via-else-line-ge-LONGEST_LINE+then-line-lt3 w ↦ step_few _ _ w.if-line-lt3.true
+    ]
 
-pub returns-then-n-lt3 : goal.returns-then-n-lt3
-returns-then-n-lt3 c = search (step_few)
+pub returns-then-not-starts_with : goal.returns-then-not-starts_with
+returns-then-not-starts_with c = search (step_other)
 
 pub returns-then-line-eq-TAB : goal.returns-then-line-eq-TAB
 returns-then-line-eq-TAB c = search (step_two)
 
-pub returns-then-n-lt5 : goal.returns-then-n-lt5
-returns-then-n-lt5 c = search (step_short)
-
-pub slice_bounds-same-end : goal.slice_bounds-same-end
-slice_bounds-same-end c = search (part_long)
-
-pub returns-then-not-same : goal.returns-then-not-same
-returns-then-not-same c = search (step_other)
-
-pub returns-in_default : goal.returns-in_default
-returns-in_default c = search (step_wait, given_bad)
+pub returns-in_err-only_field : goal.returns-in_err-only_field
+returns-in_err-only_field c = rw c.from_residual.ensures (search (step_wait, given_bad, c.in_err-only_field.was))
 
 pub returns : goal.returns
-returns c = search (step_wait, given_is)
+returns c = search (step_wait, given_is, c.in_ok-only_field.was)

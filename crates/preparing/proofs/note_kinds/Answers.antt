@@ -1,4 +1,4 @@
-use mathlib.Core.Path.{◌≡◌, refl, ◌∙◌}
+use mathlib.Core.Path.{◌≡◌, refl}
 use native.Mathlib.Omega.{arith}
 use lib.ListN.{get_or, length-set}
 use Rattle.table.specs.Tables.{table_of}
@@ -9,20 +9,17 @@ use Rattle.preparing.proofs.note_kinds.Goals as goal
 
 pub loop-c-init : goal.loop-c-init
 unfolding kinds_noted
-loop-c-init c = (omega arith, most_codels_lem c.requires.0, c.requires.1, refl)
+loop-c-init c = (most_codels_lem c.requires.0, c.requires.1, refl)
 
-pub kind_place-p-requires : goal.kind_place-p-requires
-kind_place-p-requires c = owner_low c.requires.0 c.loop-c.c _ (omega arith) (c.size-a.ensures ∙ c.number.ensures)
+pub kind_place-requires : goal.kind_place-requires
+kind_place-requires c = owner_low c.requires.0 c.loop-c.c _ (omega arith) c.number-a.ensures
 
-pub offset_bounds-index-p : goal.offset_bounds-index-p
-offset_bounds-index-p c = record { fits = omega (arith, placed_low c.requires.0 c.loop-c.c _ c.number-in-loop-c.result _ (omega arith) (c.size-a.ensures ∙ c.number.ensures) c.kind_place-p.ensures) }
-
-pub bounds-index-p : goal.bounds-index-p
-bounds-index-p c = omega (arith, placed_low c.requires.0 c.loop-c.c _ c.number-in-loop-c.result _ (omega arith) (c.size-a.ensures ∙ c.number.ensures) c.kind_place-p.ensures)
+pub bounds-index-kind_place : goal.bounds-index-kind_place
+bounds-index-kind_place c = omega (arith, placed_low c.requires.0 c.loop-c.c _ c.number-kind.result _ (omega arith) c.number-a.ensures c.kind_place.ensures)
 
 pub loop-c-preserved : goal.loop-c-preserved
-loop-c-preserved c = (omega arith, omega arith, simp length-set c.loop-c.invariant.2, kinds_more c.requires.0 _ _ _ _ _ _ (omega arith) (c.size-a.ensures ∙ c.number.ensures) c.number-in-loop-c.ensures c.kind_place-p.ensures c.loop-c.invariant.3)
+loop-c-preserved c = (omega arith, simp length-set c.loop-c.invariant.1, kinds_more c.requires.0 _ _ _ _ _ _ (omega arith) c.number-a.ensures c.number-kind.ensures c.kind_place.ensures c.loop-c.invariant.2)
 
 pub returns : goal.returns
 unfolding table_of
-returns c = let e : c.loop-c.c ≡ get_or c.args.counts 2 0 = omega arith in rw e at c.loop-c.invariant.3
+returns c = let e : c.loop-c.c ≡ get_or c.args.t.now.counts 2 0 = omega arith in rw e at c.loop-c.invariant.2

@@ -1,5 +1,5 @@
 -- `main` is safe: the table and the log's bytes lie within the block, and the table is accepted where the log is gone through.
-use Rattle.std.proofs.Common.{[], arith}
+use Rattle.std.proofs.Common.{arith}
 use Rattle.text.proofs.Seeking.{part_long}
 use Rattle.report.proofs.Lines.{put_length}
 use Rattle.judging.proofs.Hands.{put_within}
@@ -16,4 +16,4 @@ slice_bounds-read_table-end c = part_long _ _ (cut_inside _ c.in_ok-start.start.
 pub reach_log-requires : goal.reach_log-requires
 reach_log-requires c =
     let held = c.to_front-held.ensures in
-    (read_fine _ [] _ c.read_table-read.ensures c.in-Fine.is, put_within held, omega (arith, put_length held))
+    (read_fine _ c.in-Ok.ensures, put_within held, omega (arith, put_length held))

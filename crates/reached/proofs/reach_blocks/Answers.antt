@@ -4,13 +4,13 @@ use Rattle.reached.proofs.Blocks.{reading_start, reading_ends, reading_more}
 use Rattle.reached.proofs.reach_blocks.Goals as goal
 
 pub loop-turns-init : goal.loop-turns-init
-loop-turns-init g c = reading_start _ _ _ _ c.requires.1 _ c.fresh_going-g.ensures
+loop-turns-init g c = reading_start _ _ _ _ c.requires.0 _ c.fresh_going-g.ensures
 
 pub tell-requires : goal.tell-requires
 tell-requires g c =
-    let ends = reading_ends c.loop-turns.invariant c.requires.2 c.loop-turns-test.true c.requires.0 c.loop-turns.ended c.reach_block-turn.ensures in
-    (c.requires.0, ends.0, ends.1)
+    let ends = reading_ends c.loop-turns.invariant c.requires.1 c.loop-turns-test.true c.args.component.now.prepared c.loop-turns.ended c.reach_block-turn.ensures in
+    (ends.0, ends.1)
 
 pub loop-turns-preserved : goal.loop-turns-preserved
 loop-turns-preserved g c =
-    reading_more c.loop-turns.invariant c.requires.2 c.loop-turns-test.true c.requires.0 c.loop-turns.ended c.reach_block-turn.ensures _ (search rules) _ c.in_ok-got.ensures.fit
+    reading_more c.loop-turns.invariant c.requires.1 c.loop-turns-test.true c.args.component.now.prepared c.loop-turns.ended c.reach_block-turn.ensures _ (search rules) _ c.in_ok-got.ensures.fit

@@ -15,10 +15,10 @@ slice_bounds-pass-end c = search (chunk_inside)
 pub slice_bounds-pass-end-2 : goal.slice_bounds-pass-end-2
 slice_bounds-pass-end-2 c = part_long _ _ (search (chunk_inside))
 
-pub pass-past-requires : goal.pass-past-requires
-pass-past-requires c =
+pub pass-ran-requires : goal.pass-ran-requires
+pass-ran-requires c =
     let pre = c.requires in
-    (pre.0, pre.1, chunk_roomy _ _ pre.3 c.args.ended _ c.chunk_end-end.ensures pre.2 (omega arith))
+    (pre.0, chunk_roomy _ _ pre.2 c.args.ended _ c.chunk_end-end.ensures pre.1 (omega arith))
 
-pub returns : goal.returns
-returns c = turned _ _ c.requires.3 c.args.ended _ c.chunk_end-end.ensures c.pass-past.ensures c.is_over.ensures c.to_front-held.ensures
+pub returns-else-ended : goal.returns-else-ended
+returns-else-ended c = turned _ _ c.requires.2 c.args.ended _ c.chunk_end-end.ensures c.pass-ran.ensures c.refusal_of-refusal.ensures (rw c.if-ended.false) c.to_front-held.ensures

@@ -1,18 +1,18 @@
-use Rattle.row.proofs.Tables.{entry_room}
-use Rattle.row.proofs.Reading.{look_start, look_end, look_found, look_on}
+-- `kind_in` meets its contract.
+use Rattle.std.proofs.Common.{rules, tests}
+use mathlib.Core.Path.{refl, ◌∙◌}
+use Rattle.std.specs.Slice.Iter.{iter_rest}
+use Rattle.std.proofs.lemmas.Iterator.{YieldsList-from_slice}
+use Rattle.std.proofs.lemmas.Iterator.Search.{position_from_yields_List}
+use Rattle.std.proofs.lemmas.Iterator.Adapters.{position_from-zero}
+use Rattle.row.specs.Kinds.{kind_in}
+use Rattle.row.proofs.Tables.{spells, place_among}
 use Rattle.row.proofs.kind_in.Goals as goal
 
-pub loop-k-init : goal.loop-k-init
-loop-k-init c = search (look_start)
-
-pub slice_bounds-same-end : goal.slice_bounds-same-end
-slice_bounds-same-end c = entry_room _ c.loop-k.k c.kind_at-kind.ensures
-
-pub returns-then-same : goal.returns-then-same
-returns-then-same c = search (look_found)
-
-pub loop-k-preserved : goal.loop-k-preserved
-loop-k-preserved c = search (look_on)
-
 pub returns : goal.returns
-returns c = search (look_end)
+unfolding kind_in
+returns c =
+    let p = c.args.p.now in
+    let all = iter_rest c.iter.result in
+    position_from_yields_List (spells p) _ _ c.position.result c.position.ensures.ran (YieldsList-from_slice all refl) (λ x b q k. search (rules, tests))
+    ∙ position_from-zero (spells p) all ∙ place_among p 0 all ∙ rw c.iter.ensures.rest refl

@@ -1,6 +1,8 @@
 -- `most` meets its contract.
-use Rattle.row.proofs.Tables.{entry_most}
+use Rattle.std.proofs.Common.{rules}
+use Rattle.row.specs.Kinds.{most_of}
 use Rattle.row.proofs.most.Goals as goal
 
 pub returns : goal.returns
-returns c = search (entry_most)
+unfolding most_of
+returns c = search rules

@@ -1,16 +1,17 @@
 -- `put_field` meets its contract.
-use mathlib.Core.Path.{refl, ap}
+use mathlib.Core.Path.{refl}
 use native.Mathlib.Omega.{arith}
-use lib.ListN.{length}
-use Rattle.row.proofs.Values.{tabbed_none, tabbed_some}
+use Rattle.row.specs.Row.{tabbed}
 use Rattle.row.proofs.Writing.{field_put}
 use Rattle.row.proofs.put_field.Goals as goal
 
-pub returns-then-form-eq-NO_FIELD : goal.returns-then-form-eq-NO_FIELD
-returns-then-form-eq-NO_FIELD c = rw (tabbed_none _ _ c.if-form-eq-NO_FIELD.true) (omega arith, refl)
+pub returns-in_default : goal.returns-in_default
+unfolding tabbed
+returns-in_default c = rw c.in_default.is (omega arith, refl)
 
 pub bounds-buf-at : goal.bounds-buf-at
-bounds-buf-at c = omega (arith, ap length (tabbed_some c.args.form c.args.v c.if-form-eq-NO_FIELD.false))
+unfolding tabbed
+bounds-buf-at c = let h = rw c.in-Some.is at c.requires in omega arith
 
 pub returns : goal.returns
-returns c = field_put _ _ _ _ _ _ c.put_value.ensures c.if-form-eq-NO_FIELD.false c.requires
+returns c = rw c.in-Some.is (field_put _ _ _ _ _ _ c.put_value.ensures (rw c.in-Some.is at c.requires))

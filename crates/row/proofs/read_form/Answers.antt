@@ -1,18 +1,21 @@
 -- `read_form` meets its contract.
+use Rattle.std.proofs.Common.{rules}
 use Rattle.row.specs.Kinds.{kind_words, mode_words}
-use Rattle.row.proofs.Values.{read_number_lem, read_kind, read_mode, read_target_lem}
+use Rattle.row.specs.Row.{read_form}
 use Rattle.row.proofs.read_form.Goals as goal
 
-pub returns-then-form-eq-A_NUMBER : goal.returns-then-form-eq-A_NUMBER
-returns-then-form-eq-A_NUMBER c = search (read_number_lem)
+pub returns-in-Number : goal.returns-in-Number
+unfolding read_form
+returns-in-Number c = search rules
 
-pub returns-then-form-eq-A_KIND : goal.returns-then-form-eq-A_KIND
-unfolding kind_words
-returns-then-form-eq-A_KIND c = search (read_kind)
+pub returns-in-Kind : goal.returns-in-Kind
+unfolding read_form kind_words
+returns-in-Kind c = rw (c.in-Kind.is, ← c.word_in.ensures) (search rules)
 
-pub returns-then-form-eq-A_MODE : goal.returns-then-form-eq-A_MODE
-unfolding mode_words
-returns-then-form-eq-A_MODE c = search (read_mode)
+pub returns-in-Mode : goal.returns-in-Mode
+unfolding read_form mode_words
+returns-in-Mode c = rw (c.in-Mode.is, ← c.word_in-in-Mode.ensures) (search rules)
 
-pub returns : goal.returns
-returns c = search (read_target_lem)
+pub returns-in-Target : goal.returns-in-Target
+unfolding read_form
+returns-in-Target c = search rules

@@ -1,24 +1,25 @@
 -- `value_width` meets its contract.
+use Rattle.std.proofs.Common.{rules}
+use borrow.Author.Tests.{ne_eqb}
 use Rattle.text.proofs.Numbers.{length_digits}
 use Rattle.text.specs.Fields.{ether_word}
 use Rattle.row.specs.Kinds.{kind_words, mode_words}
-use Rattle.row.proofs.Values.{text_number, text_kind, text_mode, text_ether, text_codel}
 use Rattle.row.proofs.value_width.Goals as goal
 
-pub returns-then-form-eq-A_NUMBER : goal.returns-then-form-eq-A_NUMBER
-returns-then-form-eq-A_NUMBER c = search (text_number, length_digits)
+pub returns-in-Number : goal.returns-in-Number
+returns-in-Number c = rw (c.in-Number.is, length_digits) c.width.ensures
 
-pub returns-then-form-eq-A_KIND : goal.returns-then-form-eq-A_KIND
+pub returns-in-Kind : goal.returns-in-Kind
 unfolding kind_words
-returns-then-form-eq-A_KIND c = search (text_kind)
+returns-in-Kind c = search rules
 
-pub returns-then-form-eq-A_MODE : goal.returns-then-form-eq-A_MODE
+pub returns-in-Mode : goal.returns-in-Mode
 unfolding mode_words
-returns-then-form-eq-A_MODE c = search (text_mode)
+returns-in-Mode c = search rules
 
-pub returns-then-v-eq-ETHER : goal.returns-then-v-eq-ETHER
+pub returns-in-Target : goal.returns-in-Target
 unfolding ether_word
-returns-then-v-eq-ETHER c = search (text_ether)
+returns-in-Target c = rw (c.in-Target.is, c.if-v-eq-ETHER.true)
 
-pub returns : goal.returns
-returns c = search (text_codel, length_digits)
+pub returns-in-Target-2 : goal.returns-in-Target-2
+returns-in-Target-2 c = rw (c.in-Target.is, ne_eqb _ _ c.if-v-eq-ETHER.false, length_digits) c.width-in-Target-2.ensures

@@ -1,10 +1,7 @@
 -- `state_from` meets its contract.
-use borrow.Author.Rules.{rules}
-use Rattle.saved.proofs.Filling.{few_tasks, state_filled}
+use Rattle.saved.specs.Rows.{state_from}
 use Rattle.saved.proofs.state_from.Goals as goal
 
-pub with_tasks-z-requires : goal.with_tasks-z-requires
-with_tasks-z-requires c = search (rules, few_tasks)
-
 pub returns : goal.returns
-returns c = search state_filled
+unfolding state_from
+returns c = rw (c.tasks_said.ensures, c.acts_said.ensures, c.fresh_state-fresh.ensures)

@@ -7,11 +7,11 @@ use Rattle.stepping.proofs.step_line.Goals as goal
 pub returns-in_default : goal.returns-in_default
 returns-in_default c = search line_bad
 
-pub run-r-requires : goal.run-r-requires
-run-r-requires c = search (rules, ready, line_roomy)
+pub run-ran-requires : goal.run-ran-requires
+run-ran-requires c = search (rules, ready, line_roomy)
 
 pub returns-in_default-stop : goal.returns-in_default-stop
 returns-in_default-stop c = search line_accepted
 
-pub returns : goal.returns
-returns c = search line_refused
+pub returns-in-Refused : goal.returns-in-Refused
+returns-in-Refused c = search line_refused

@@ -10,5 +10,5 @@ returns-then-s-le-LONGEST c = search (cut_short)
 pub slice_bounds-table_end-end : goal.slice_bounds-table_end-end
 slice_bounds-table_end-end c = part_long c.args.s.now _ (search rules)
 
-pub returns : goal.returns
-returns c = search (cut_long)
+pub returns-else-s-le-LONGEST : goal.returns-else-s-le-LONGEST
+returns-else-s-le-LONGEST c = search (cut_long)

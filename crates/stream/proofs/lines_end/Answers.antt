@@ -1,15 +1,9 @@
-use borrow.Author.Rules.{rules}
-use Rattle.stream.proofs.Lines.{lines_start, lines_here, lines_more, lines_none}
+-- `lines_end` meets its contract.
+use Rattle.stream.proofs.Lines.{lines_last, lines_none}
 use Rattle.stream.proofs.lines_end.Goals as goal
 
-pub loop-end-init : goal.loop-end-init
-loop-end-init c = (search rules, search (lines_start))
+pub returns-in-Some : goal.returns-in-Some
+returns-in-Some c = let told = c.in-Some.ensures in lines_last _ _ told.0 told.1 told.2
 
-pub returns-then-s-end-eq-NEWLINE : goal.returns-then-s-end-eq-NEWLINE
-returns-then-s-end-eq-NEWLINE c = search (lines_here)
-
-pub loop-end-preserved : goal.loop-end-preserved
-loop-end-preserved c = (search rules, search (lines_more))
-
-pub returns : goal.returns
-returns c = search (lines_none)
+pub returns-in-None : goal.returns-in-None
+returns-in-None c = lines_none _ c.in-None.ensures

@@ -6,8 +6,8 @@ use Rattle.stream.proofs.table_end.Goals as goal
 pub loop-at-init : goal.loop-at-init
 loop-at-init c = (search rules, search (end_start))
 
-pub returns-then-s-e : goal.returns-then-s-e
-returns-then-s-e c = search (end_last)
+pub returns-then-s-end : goal.returns-then-s-end
+returns-then-s-end c = search (end_last)
 
 pub slice_bounds-is_end-count : goal.slice_bounds-is_end-count
 slice_bounds-is_end-count c = search (part_starts)

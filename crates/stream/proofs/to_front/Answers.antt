@@ -1,11 +1,6 @@
-use Rattle.stream.proofs.Fronts.{moving_start, moving_more, moving_end}
+-- `to_front` meets its contract.
+use Rattle.stream.proofs.Fronts.{moved}
 use Rattle.stream.proofs.to_front.Goals as goal
 
-pub loop-at-init : goal.loop-at-init
-loop-at-init c = search (moving_start)
-
-pub loop-at-preserved : goal.loop-at-preserved
-loop-at-preserved c = search (moving_more)
-
 pub returns : goal.returns
-returns c = search (moving_end)
+returns c = search (moved)

@@ -8,5 +8,5 @@ overflow_sub-s c = search (lines_within)
 pub returns-then-s-end-lt-LONGEST_ROW : goal.returns-then-s-end-lt-LONGEST_ROW
 returns-then-s-end-lt-LONGEST_ROW c = search (whole_short)
 
-pub returns : goal.returns
-returns c = search (whole_long)
+pub returns-else-s-end-lt-LONGEST_ROW : goal.returns-else-s-end-lt-LONGEST_ROW
+returns-else-s-end-lt-LONGEST_ROW c = search (whole_long)

@@ -18,10 +18,10 @@ slice_bounds-play-end-2 c = part_long _ _ (search (chunk_inside))
 pub play-ran-requires : goal.play-ran-requires
 play-ran-requires c =
     let pre = c.requires in
-    (pre.0, pre.1.ready, search rules, chunk_roomy _ _ pre.3 c.args.ended _ c.chunk_end-end.ensures pre.2 (omega arith), search rules)
+    (pre.0.ready, search rules, chunk_roomy _ _ pre.2 c.args.ended _ c.chunk_end-end.ensures pre.1 (omega arith), search rules)
 
 pub returns : goal.returns
 returns c =
     let pre = c.requires in
-    turned pre.0 _ pre.1 _ _ pre.3 _ _ pre.4 _ c.chunk_end-end.ensures c.play-ran.ensures _ c.is_over-over.ensures
+    turned c.args.component.now.prepared _ pre.0 _ _ pre.2 _ _ pre.3 _ c.chunk_end-end.ensures c.play-ran.ensures _ c.is_over-over.ensures
     _ _ c.put_end-told.ensures _ _ c.to_front-held.ensures

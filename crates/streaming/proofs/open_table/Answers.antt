@@ -15,5 +15,5 @@ slice_bounds-read_table-end-2 c = part_long _ _ (search (table_within))
 
 pub returns : goal.returns
 returns c =
-    opened _ _ c.requires _ c.cut_at-cut.ensures c.read_table-read.result c.read_table-read.ensures _ _ _ c.put_opening-told.ensures _ c.is_fine.ensures
+    opened _ _ c.requires _ c.cut_at-cut.ensures c.read_table-read.result c.read_table-read.ensures _ _ _ c.put_opening-told.ensures _ c.ok.ensures.value
     _ _ c.to_front-held.ensures

@@ -1,52 +1,36 @@
-use borrow.Author.Rules.{rules}
-use Rattle.table.proofs.RowsLeft.{next_fits, less_skip, less_next}
-use Rattle.table.proofs.Checking.{given_stored, check_start, check_end, line_fits, check_skip, check_full, check_stops, check_storable, check_more}
+use native.Mathlib.Omega.{arith}
+use Rattle.std.proofs.lemmas.Result.{err_from_is_err_and}
+use Rattle.table.proofs.Checking.{given_worded, check_start, check_end, check_skip, check_full, check_stops, check_more, line_fits}
 use Rattle.table.proofs.check_table.Goals as goal
 
 pub loop-k-init : goal.loop-k-init
 loop-k-init c = search (check_start)
 
-pub loop-k-smaller-then-have-k : goal.loop-k-smaller-then-have-k
-loop-k-smaller-then-have-k c = search (less_skip)
+pub returns-then-is_full : goal.returns-then-is_full
+returns-then-is_full c = search (check_full)
 
-pub loop-k-preserved-then-have-k : goal.loop-k-preserved-then-have-k
-loop-k-preserved-then-have-k c = search (check_skip)
+pub add-requires : goal.add-requires
+add-requires c = (given_worded _ _ _ _ c.row_at.ensures.0 c.loop-k-test.true, c.row_at.ensures.1)
 
-pub returns-then-most-counts : goal.returns-then-most-counts
-returns-then-most-counts c =
-    check_full c.loop-k.invariant c.loop-k-test.true c.if-have-k.false
-    _ c.most.ensures c.if-most-counts.true _ c.refuse.ensures
-
-pub check_row-v-requires : goal.check_row-v-requires
-check_row-v-requires c = search (given_stored)
-
-pub returns-in_default : goal.returns-in_default
-returns-in_default c =
-    check_stops c.loop-k.invariant c.loop-k-test.true c.if-have-k.false
-    _ c.most.ensures c.if-most-counts.false _ c.row_at-r.ensures.0 _ c.check_row-v.ensures
-    _ _ c.in_default.is c.number.ensures _ c.refuse-in_default.ensures
-
-pub store_row-more-requires : goal.store_row-more-requires
-store_row-more-requires c =
-    check_storable c.loop-k.invariant c.loop-k-test.true c.if-have-k.false
-    _ c.most.ensures c.if-most-counts.false _ c.row_at-r.ensures.0 _ c.check_row-v.ensures
-    c.in-Fine.is
-
-pub overflow_add-i : goal.overflow_add-i
-overflow_add-i c =
-    next_fits _ _ c.if-have-k.false (search rules)
+pub returns-in_err-add : goal.returns-in_err-add
+returns-in_err-add c =
+    let p = err_from_is_err_and c.from_residual.result c.from_residual.ensures.1 in
+    let e = c.in_err-add.ensures in
+    rw (p.1, p.2)
+    (check_stops c.loop-i.invariant c.loop-k-test.true c.loop-i-test.true _ c.is_full.ensures c.if-is_full.false
+    _ c.row_at.ensures.0 _ e.0 e.1)
 
 pub overflow_add-line : goal.overflow_add-line
-overflow_add-line c = search (line_fits)
+overflow_add-line c = let h = line_fits c.loop-i.invariant _ c.loop-i.draft.building in omega arith
 
-pub loop-k-smaller : goal.loop-k-smaller
-loop-k-smaller c = search (less_next)
+pub loop-i-preserved : goal.loop-i-preserved
+loop-i-preserved c =
+    let e = c.in_ok-add.ensures in
+    check_more c.loop-i.invariant c.loop-k-test.true c.loop-i-test.true _ c.is_full.ensures c.if-is_full.false
+    _ c.row_at.ensures.0 _ c.loop-i.draft.building e.0 _ e.1
 
 pub loop-k-preserved : goal.loop-k-preserved
-loop-k-preserved c =
-    check_more c.loop-k.invariant c.loop-k-test.true c.if-have-k.false
-    _ c.most.ensures c.if-most-counts.false _ c.row_at-r.ensures.0 _ c.check_row-v.ensures
-    c.in-Fine.is _ _ _ c.store_row-more.ensures
+loop-k-preserved c = search (check_skip)
 
 pub returns : goal.returns
-returns c = check_end c.loop-k.invariant c.loop-k-test.false _ c.close.ensures
+returns c = search (check_end)

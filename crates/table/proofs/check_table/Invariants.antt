@@ -1,14 +1,10 @@
--- `check_table` meets its contract. Checking the rows left behind those stored gives what checking all gives.
-use Prim.Native.Nat.{◌+◌, ◌-◌}
-use lib.ListN.{length}
-use Rattle.row.specs.Kinds.{stored_kinds}
-use Rattle.table.specs.Tables.{made}
-use Rattle.table.proofs.RowsLeft.{left}
+-- `check_table` meets its contract. Checking the rows left behind those so far gives what checking all gives.
+use Rattle.table.specs.Drafts.{drafted}
 use Rattle.table.proofs.Checking.{Checking}
 use Rattle.table.proofs.check_table.Given as goal
 
 abbrev pub invariant-loop-k : goal.invariant-loop-k
-invariant-loop-k l = Checking (made l.have l.given) l.k l.i l.line l.counts l.rows l.marks
+invariant-loop-k l = Checking l.t l.k 0 l.line (drafted l.draft)
 
-abbrev pub decreases-loop-k : goal.decreases-loop-k
-decreases-loop-k l = length (left (made l.have l.given) l.k l.i) + (stored_kinds - l.k)
+abbrev pub invariant-loop-i : goal.invariant-loop-i
+invariant-loop-i l = Checking l.t l.k l.i l.line (drafted l.draft)

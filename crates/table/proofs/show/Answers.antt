@@ -1,18 +1,20 @@
 -- `show` meets its contract.
-use Rattle.table.proofs.Shown.{show_none, show_kind, show_mode, show_ether, show_value}
+use mathlib.Core.Logic.{inl, inr}
+use Rattle.table.specs.Tables.{shown}
 use Rattle.table.proofs.show.Goals as goal
 
-pub returns-then-form-eq-NO_FIELD : goal.returns-then-form-eq-NO_FIELD
-returns-then-form-eq-NO_FIELD c = search (show_none)
+pub returns-in_default : goal.returns-in_default
+unfolding shown
+returns-in_default c = rw c.in_default.is
 
-pub returns-then-form-eq-A_KIND : goal.returns-then-form-eq-A_KIND
-returns-then-form-eq-A_KIND c = search (show_kind)
+pub returns-in-Kind : goal.returns-in-Kind
+unfolding shown
+returns-in-Kind c = rw (c.in-Some.is, c.in-Kind.is, c.from.ensures) c.min.ensures
 
-pub returns-then-form-eq-A_MODE : goal.returns-then-form-eq-A_MODE
-returns-then-form-eq-A_MODE c = search (show_mode)
+pub returns-in-Mode : goal.returns-in-Mode
+unfolding shown
+returns-in-Mode c = rw (c.in-Some.is, c.in-Mode.is, c.from-in-Mode.ensures) c.min-in-Mode.ensures
 
-pub returns-then-x-eq-ETHER_SLOT : goal.returns-then-x-eq-ETHER_SLOT
-returns-then-x-eq-ETHER_SLOT c = search (show_ether)
-
-pub returns : goal.returns
-returns c = search (show_value)
+pub returns-in-Number : goal.returns-in-Number
+unfolding shown
+returns-in-Number c = elim c.in-Number.is [ inl e ↦ rw (c.in-Some.is, e) c.widen.ensures | inr e ↦ rw (c.in-Some.is, e) c.widen.ensures ]

@@ -1,12 +1,7 @@
 -- `byte_behind` meets its contract. The first b from i on is the first from the start on.
-use Prim.Native.Nat.{◌-◌}
 use mathlib.Core.Path.{◌≡◌}
-use lib.ListN.{length}
 use Rattle.text.specs.Parts.{first_at}
 use Rattle.text.proofs.byte_behind.Given as goal
 
 abbrev pub invariant-loop-i : goal.invariant-loop-i
 invariant-loop-i l = first_at l.s l.i l.b ≡ first_at l.s l.at l.b
-
-abbrev pub decreases-loop-i : goal.decreases-loop-i
-decreases-loop-i l = length l.s - l.i

@@ -6,6 +6,3 @@ use Rattle.text.proofs.past_digits.Given as goal
 
 abbrev pub invariant-loop-j : goal.invariant-loop-j
 invariant-loop-j l = Behind l.s l.at l.base l.k l.n l.left l.j × (l.at + l.k ≤ length l.s)
-
-abbrev pub decreases-loop-j : goal.decreases-loop-j
-decreases-loop-j l = l.j

@@ -11,6 +11,3 @@ zeros s at n e q = rw e q
 
 pub returns-then-n-eq0 : goal.returns-then-n-eq0
 returns-then-n-eq0 c = zeros _ _ _ c.if-n-eq0.true c.past_bytes.ensures
-
-pub returns : goal.returns
-returns c = c.past_digits.ensures

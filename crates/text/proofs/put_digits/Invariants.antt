@@ -8,6 +8,3 @@ use Rattle.text.proofs.put_digits.Given as goal
 
 abbrev pub invariant-loop-j : goal.invariant-loop-j
 invariant-loop-j l = (l.j ≤ l.k) × (length l.buf ≡ length l.initial.buf) × (sets l.buf l.at (pad l.base l.j l.left) ≡ sets l.initial.buf l.at (pad l.base l.k l.n))
-
-abbrev pub decreases-loop-j : goal.decreases-loop-j
-decreases-loop-j l = l.j

@@ -1,30 +1,19 @@
 -- `read_number` meets its contract.
-use native.Mathlib.Omega.{arith}
-use borrow.Author.Rules.{rules}
-use Rattle.text.proofs.Spelling.{power_fits}
 use Rattle.text.proofs.Decimals.{number_empty, number_over, number_wide, number_one, number_zero, number_more}
 use Rattle.text.proofs.read_number.Goals as goal
+use Rattle.text.proofs.read_number.Goals.{then-n-eq0-via-then-n-eq0, then-n-eq0-via-else-n-eq0+then-most-n, then-n-eq0-via-else-n-eq0+else-most-n+then-n-gt-WIDEST, else-n-ne1-via-then-n-ne1+else-s-eq48, else-n-ne1-via-else-n-ne1}
 
 pub returns-then-n-eq0 : goal.returns-then-n-eq0
-returns-then-n-eq0 c = search (number_empty)
-
-pub returns-then-most-n : goal.returns-then-most-n
-returns-then-most-n c = search (number_over)
-
-pub returns-then-n-gt-WIDEST : goal.returns-then-n-gt-WIDEST
-returns-then-n-gt-WIDEST c = search (number_wide)
-
-pub read_digits-requires : goal.read_digits-requires
-read_digits-requires c = (search rules, power_fits _ _ 19 (search rules) (search rules) (omega arith))
-
-pub returns-then-n-eq1 : goal.returns-then-n-eq1
-returns-then-n-eq1 c = search (number_one)
+returns-then-n-eq0 c =
+    elim c.then-n-eq0.branch [
+      | then-n-eq0-via-then-n-eq0 w ↦ search number_empty
+      | then-n-eq0-via-else-n-eq0+then-most-n w ↦ search number_over
+      | then-n-eq0-via-else-n-eq0+else-most-n+then-n-gt-WIDEST w ↦ search number_wide
+    ]
 
 pub returns-then-s-eq48 : goal.returns-then-s-eq48
-returns-then-s-eq48 c = search (number_zero)
-
-pub read_digits-requires-2 : goal.read_digits-requires-2
-read_digits-requires-2 c = (search rules, power_fits _ _ 19 (search rules) (search rules) (omega arith))
+returns-then-s-eq48 c = search number_zero
 
 pub returns : goal.returns
-returns c = search (number_more)
+returns c =
+    elim c.else-n-ne1.branch [ else-n-ne1-via-then-n-ne1+else-s-eq48 w ↦ search number_more | else-n-ne1-via-else-n-ne1 w ↦ search number_one ]

@@ -1,8 +1,0 @@
--- `tasks` meets its contract.
-use borrow.Author.Rules.{rules}
-use Rattle.table.specs.Tables.{table_of}
-use Rattle.prepared.proofs.tasks.Goals as goal
-
-pub returns : goal.returns
-unfolding table_of
-returns c = search rules

@@ -1,8 +1,0 @@
--- `fired` meets its contract.
-use Rattle.records.proofs.fired.Goals as goal
-
-pub returns-then-x : goal.returns-then-x
-returns-then-x c = rw c.if-x.true
-
-pub returns : goal.returns
-returns c = rw c.if-x.false
