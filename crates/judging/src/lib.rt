@@ -75,6 +75,7 @@ fn does_fit(component: &Component, log: &[u8], room: usize) -> bool
     let mut at = 0;
     let mut filled = 0;
     let mut width = HEAD;
+    // How many runs it takes is not known before: each cycle that finds no room ends one.
     loop {
         let ran = playing::play(component, log, at, going, &mut scratch, filled);
         if room - width < ran.filled {

@@ -27,7 +27,7 @@ const SCRATCH: usize = 4096;
 const NO_ROOM: u64 = 31;
 
 // A block that was gone through: where the log stands, the refusal, how many bytes are held for the next block, and whether it is over. The
-// refusal is the number that `put_end` takes, 0 for none.
+// refusal is the number that `put_end` takes, 0 for none. That it is over stands beside the rest, since the rest is told either way.
 #[derive(Clone, Copy)]
 pub struct Turn {
     pub going: Going,
@@ -44,6 +44,7 @@ fn pass(component: &Component, log: &[u8], start: Going) -> Ran
     let mut scratch = [0u8; SCRATCH];
     let mut going = start;
     let mut at = 0;
+    // How many runs it takes is not known before: each cycle that finds no room ends one.
     loop {
         let ran = playing::play(component, log, at, going, &mut scratch, 0);
         let Stop::Closed(_) = ran.stop else {

@@ -22,6 +22,7 @@ pub struct Opened {
 }
 
 // A block that was judged: where the judging stands, how many bytes are told, how many are held for the next block, and whether it is over.
+// The last is no Option of the rest: where the judging stands and what is told are there either way.
 #[derive(Clone, Copy)]
 pub struct Turn {
     pub going: Going,
