@@ -16,12 +16,15 @@ use Rattle.std.specs.Prelude.{Some, None}
 use Rattle.model.specs.Tables.{Table}
 use Rattle.model.specs.declared.State.{State}
 use Rattle.model.specs.declared.Step.{Step}
+use Rattle.model.specs.declared.Step.TheVariants.{Wait, Sm, OfTask, OfAct}
 use Rattle.logs.specs.Lines.{set_digits, read_step}
+use Rattle.logs.proofs.Bounds.{read_step_bounds}
 use Rattle.logs.proofs.Shapes.{no_step_lem}
 use Rattle.saved.specs.Rows.{begins_row}
 use Rattle.saved.proofs.Rows.{begins_no_step}
 use Rattle.engine.specs.Play.{Played, pieces, stopped, on_step, goes_by, up_to_row, paused, is_closed, is_row, AtRow}
 use Rattle.engine.specs.Turns.{line_at, passes_at, row_or}
+use Rattle.engine.specs.Steps.{Small}
 use Rattle.tally.specs.Tallies.{after_row}
 use Rattle.tally.specs.declared.Tally.{Tally}
 use Rattle.engine.specs.declared.Stop.TheVariants.{End, Refused}
@@ -42,6 +45,13 @@ first_line log at e h f l F G m =
     let q : pieces log at ≡ p ∷ pieces log (e + 1) = from_here log at e h f ∙ rw (le-ltb _ _ k) in
     subst⁻¹ (λ ps. F ps ≡ G p ps (pieces log (e + 1))) q
     (subst⁻¹ (λ ps. F (p ∷ ps) ≡ G p (p ∷ ps) ps) (from_here log (e + 1) _ k refl) (m p _ _))
+
+-- a line says no more ticks than a step takes
+pub read_small : (x : Step) (p : List ℕ) → read_step set_digits p ≡ Some x → Small x
+read_small (Wait d) p j = omega (arith, (read_step_bounds set_digits p (Wait d) j).1)
+read_small (Sm t n r) p j = tt
+read_small (OfTask t k) p j = tt
+read_small (OfAct a k) p j = tt
 
 module _ (K : Table) (s : State) (c : Tally) (room : ℕ) (log : List ℕ) where
   -- at the end there is no line

@@ -7,9 +7,9 @@ use mathlib.Core.Path.{◌≡◌, refl, ap, sym, subst⁻¹, ◌∙◌}
 use native.Mathlib.Omega.{arith}
 use borrow.Author.Tests.{ne_eqb, le-leb, lt-leb}
 use lib.Dec.{T}
-use lib.ListN.{length, take, drop, length-append}
+use lib.ListN.{length, length-append}
 use lib.Seq.{sets, length-sets}
-use Rattle.text.specs.Parts.{pick, first_at}
+use Rattle.text.specs.Parts.{first_at}
 use Rattle.text.specs.Put.{Put}
 use Rattle.text.proofs.Picks.{order}
 use Rattle.text.proofs.Puts.{put_fits, put_short, sets_append}
@@ -19,26 +19,22 @@ use Rattle.model.specs.Limits.{most_tasks, most_acts}
 use Rattle.model.specs.Tables.{Table}
 use Rattle.model.specs.Refusals.{number_of}
 use Rattle.model.specs.declared.refusal.Refusal.{Refusal}
-use Rattle.model.specs.Logs.{is_wait}
-use Rattle.model.specs.Cycles.{Verdict, none, kept, dropped, verdict, opens, drops}
+use Rattle.model.specs.Cycles.{Verdict, none, kept, dropped, verdict}
 use Rattle.model.specs.declared.State.{State}
 use Rattle.model.specs.declared.Step.{Step}
-use Rattle.model.specs.declared.Step.TheVariants.{Wait, Sm, OfTask, OfAct}
 use Rattle.model.proofs.Formed.{Formed}
 use Rattle.model.proofs.Soundness.{Sound, sound_of, of_sound}
 use Rattle.model.proofs.StepsKeep.{step_keeps}
-use Rattle.logs.specs.Lines.{set_digits, read_step}
-use Rattle.logs.proofs.Bounds.{read_step_bounds}
 use Rattle.conflicts.specs.Busy.{busy_in}
 use Rattle.managing.specs.Listed.{listed_in}
 use Rattle.report.specs.Rows.{cycle_of, cycle_text}
 use Rattle.report.specs.declared.Cycle.{Cycle}
 use Rattle.report.proofs.Lines.{row_some}
-use Rattle.tally.specs.Tallies.{after_row, ruling_of, keeps_one, counted, Roomy}
+use Rattle.tally.specs.Tallies.{after_row, ruling_of, Roomy}
 use Rattle.tally.specs.declared.Tally.{Tally}
 use Rattle.tally.specs.declared.Ruling.{Ruling}
 use Rattle.tally.specs.declared.Ruling.TheVariants.{Kept}
-use Rattle.tally.proofs.Tallying.{roomy_one, row_roomy}
+use Rattle.tally.proofs.Tallying.{roomy_one, counted_roomy, row_roomy}
 use Rattle.engine.specs.Play.{Played, played_to, pieces, stopped, telling, on_kept, on_verdict, on_step, paused, Ready, is_closed, is_row, AtRow, Pauses}
 use Rattle.engine.specs.Turns.{line_at, passes_at, row_or}
 use Rattle.engine.specs.Steps.{Finds, Small, Takes, Refuses}
@@ -46,7 +42,7 @@ use Rattle.engine.specs.declared.Stop.{Stop}
 use Rattle.engine.specs.declared.Stop.TheVariants.{End, Refused, Closed}
 use Rattle.engine.specs.declared.Going.{Going}
 use Rattle.engine.proofs.Stepping.{number_some}
-use Rattle.engine.proofs.Lines.{at_end_lem, at_passed, at_unread, step_ends, at_step, row_unclosed, row_there}
+use Rattle.engine.proofs.Lines.{read_small, at_end_lem, at_passed, at_unread, step_ends, at_step, row_unclosed, row_there}
 use Rattle.engine.proofs.Pausing.{telling_more, played_on, plays_on}
 
 -- what holds where a line starts: the state is sound, what is kept beside it agrees, and there is room to count the lines left
@@ -90,38 +86,6 @@ rows_kept {lent} {place = place} R = ap length R.bytes ∙ length-sets lent plac
 -- a row more behind them
 rows_more : {lent buf : List ℕ} {place end : ℕ} (R : Rows lent place buf end) (row : List ℕ) → sets buf end row ≡ sets lent place (R.text ++ row)
 rows_more {lent} {place = place} R row = rw (R.bytes, R.filled) (sym (sets_append lent place R.text row))
-
--- there is room for what a step counts
-counted_roomy : (x : Step) (v : Verdict) (c : Tally) {n m : ℕ} → Roomy c n → m < n → Roomy (counted x v c) m
-counted_roomy x v c R h = record {
-  lines = omega (arith, R.lines);
-  opened = omega (arith, R.opened, opens_most x);
-  kept = omega (arith, R.kept, keeps_most v);
-  dropped = omega (arith, R.dropped, drops_most v);
-  since = omega (arith, R.since, since_most x c.since);
-}
-  where
-    opens_most : (x : Step) → opens x ≤ 1
-    opens_most (Wait d) = omega arith
-    opens_most (Sm t n r) = omega arith
-    opens_most (OfTask t k) = omega arith
-    opens_most (OfAct a k) = omega arith
-
-    since_most : (x : Step) (k : ℕ) → pick (is_wait x) 0 (k + 1) ≤ k + 1
-    since_most (Wait d) k = omega arith
-    since_most (Sm t n r) k = omega arith
-    since_most (OfTask t i) k = omega arith
-    since_most (OfAct a i) k = omega arith
-
-    keeps_most : (v : Verdict) → keeps_one v ≤ 1
-    keeps_most none = omega arith
-    keeps_most (kept r) = omega arith
-    keeps_most dropped = omega arith
-
-    drops_most : (v : Verdict) → drops v ≤ 1
-    drops_most none = omega arith
-    drops_most (kept r) = omega arith
-    drops_most dropped = omega arith
 
 -- what an accepted step comes to, by its verdict as the code has it
 module _ (s : State) (c : Tally) (room : ℕ) (ls : List (List ℕ)) (go : ℕ → Played) where
@@ -255,13 +219,7 @@ module _ {K : Table} {log : List ℕ} {from : ℕ} {start : Going} {lent : List 
           pub step_small : Small x
           step_small =
               let n : e ≡ length log → ⊥ = λ z. omega (arith, ends) in
-              small x (rw (ne_eqb e (length log) n) at line_is)
-            where
-              small : (x : Step) → read_step set_digits (take (e - at) (drop at log)) ≡ Some x → Small x
-              small (Wait d) j = omega (arith, (read_step_bounds set_digits _ (Wait d) j).1)
-              small (Sm t n r) j = tt
-              small (OfTask t k) j = tt
-              small (OfAct a k) j = tt
+              read_small x _ (rw (ne_eqb e (length log) n) at line_is)
 
           paused_here : paused K g.state g.tally (length lent - filled) (pieces log at) ≡ on_step K g.state g.tally (length lent - filled) x (pieces log at) (pieces log (e + 1)) (λ w d n. paused K w d n (pieces log (e + 1)))
           paused_here = at_step K g.state g.tally (length lent - filled) log at e h f x line_is

@@ -194,7 +194,8 @@ pub fn run(
     }
 }
 
-// What a run carries that starts at a state and a tally.
+// What a run carries that starts at a state and a tally. It stays a call, as `fresh_going` does: what they keep is off the stack when a run begins.
+#[inline(never)]
 pub fn going_at(s: State, c: Tally) -> Going
     ensures { result ≡ going_at s c }
 {
@@ -221,6 +222,7 @@ pub fn going_from(s: State) -> Going
 }
 
 // Where every log starts.
+#[inline(never)]
 pub fn fresh_going() -> Going
     ensures { result ≡ fresh_going }
 {

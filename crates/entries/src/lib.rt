@@ -23,7 +23,8 @@ pub fn read_sound(component: &Component, line: &[u8]) -> Result<State, Refusal>
     Ok(s)
 }
 
-// Is a line the row of a sound state?
+// Is a line the row of a sound state? It stays a call: the row that it writes is off the stack when the line is read.
+#[inline(never)]
 fn is_row_of(component: &Component, line: &[u8], s: State) -> bool
     requires { T (sound (held component.now) s) }
     ensures { result ≡ same_list line.now (row_line (held component.now) s) }

@@ -5,15 +5,12 @@ ghost use Rattle.std.specs.Prelude.{◌≡◌, ◌≤◌, length, leb};
 ghost use Rattle.text.specs.Put.{Put};
 ghost use Rattle.model.specs.Cycles.{refused_report};
 ghost use Rattle.prepared.specs.Held.{held};
-ghost use Rattle.table.specs.Checks.{Passes};
-ghost use Rattle.table.specs.Tables.{table_of};
 ghost use Rattle.tally.specs.Tallies.{most_count, lines_of, sum_of};
 ghost use Rattle.report.specs.Rows.{sum_numbers, sum_text};
 ghost use Rattle.judging.specs.Report.{report_text, log_text, report_on, refusal_of, surely};
 
 use engine::{Going, Stop};
 use prepared::Component;
-use table::Table;
 
 // The longest `kept` row.
 const LONGEST_KEPT: usize = 75;
@@ -63,7 +60,9 @@ pub fn put_refused(report: &mut [u8], refusal: u64, line: usize) -> usize
     report::put_line(report, at, b"sum", &numbers)
 }
 
-// Does the report on a log fit the room? Judges it once, its rows into a scratch that is measured and written over.
+// Does the report on a log fit the room? Judges it once, its rows into a scratch that is measured and written over. This and `write_report` stay
+// calls, so that what one keeps is off the stack before the other judges.
+#[inline(never)]
 fn does_fit(component: &Component, log: &[u8], room: usize) -> bool
     ensures { result ≡ leb (length (log_text (held component.now) log.now)) room }
 {
@@ -104,6 +103,7 @@ pub fn refusal_of(stop: Stop) -> u64
 }
 
 // Judges a log and writes its report into a buffer that holds it.
+#[inline(never)]
 fn write_report(component: &Component, log: &[u8], report: &mut [u8]) -> usize
     requires { length (log_text (held component.now) log.now) ≤ length report.old }
     ensures { Put report.old 0 (log_text (held component.now) log.now) result report.new }
@@ -126,14 +126,12 @@ fn surely_fits(room: usize, bytes: usize) -> bool
     room >= HEAD_AND_SUM && bytes / CYCLE_LINES <= (room - HEAD_AND_SUM) / LONGEST_KEPT
 }
 
-// The report on a log, judged against an accepted table; nothing is written where it does not fit.
-fn judge_log(table: Table, log: &[u8], report: &mut [u8]) -> usize
-    requires { Passes table }
-    ensures { Put report.old 0 (log_text (table_of table) log.now) result report.new }
+// The report on a log, judged against a component; nothing is written where it does not fit.
+fn judge_log(component: &Component, log: &[u8], report: &mut [u8]) -> usize
+    ensures { Put report.old 0 (log_text (held component.now) log.now) result report.new }
 {
-    let component = preparing::prepare(table);
-    if surely_fits(report.len(), log.len()) || does_fit(&component, log, report.len()) {
-        write_report(&component, log, report)
+    if surely_fits(report.len(), log.len()) || does_fit(component, log, report.len()) {
+        write_report(component, log, report)
     } else {
         0
     }
@@ -144,8 +142,15 @@ fn judge_log(table: Table, log: &[u8], report: &mut [u8]) -> usize
 pub fn judge(table: &[u8], log: &[u8], report: &mut [u8]) -> usize
     ensures { Put report.old 0 (report_on table.now log.now) result report.new }
 {
-    match table::read_table(table) {
-        Ok(table) => judge_log(table, log, report),
+    let read = table::read_table(table);
+    match &read {
+        Ok(table) => {
+            let component = Component {
+                rows: table.rows,
+                index: preparing::index_of(table),
+            };
+            judge_log(&component, log, report)
+        }
         Err(refused) => put_refused(report, refused.fault.number(), refused.line),
     }
 }

@@ -18,10 +18,10 @@ pub record Resumed : Type 0 where
 abbrev pub resumed_to : ℕ → Going → Resumed
 resumed_to n g = record { number = n; going = g }
 
--- a row that is refused leaves what was carried
-abbrev pub resumed_by : Going → Result Going Refusal → Resumed
-resumed_by g (Ok h) = resumed_to 0 h
-resumed_by g (Err r) = resumed_to (number_of r) g
+-- by the answer, with what is carried behind it
+abbrev pub resumed_by : Going → Result (Unit {0}) Refusal → Resumed
+resumed_by h (Ok u) = resumed_to 0 h
+resumed_by h (Err r) = resumed_to (number_of r) h
 
 -- the line of a row taken where a run left
 pub record Resumes (K : Table) (g : Going) (line : List ℕ) (r : Resumed) : Type 0 where

@@ -8,7 +8,7 @@ ghost use Rattle.row.specs.Kinds.{stored_kinds};
 ghost use Rattle.table.specs.Tables.{table_of, Counted};
 ghost use Rattle.table.specs.Checks.{Passes};
 ghost use Rattle.prepared.specs.Held.{held};
-ghost use Rattle.prepared.specs.Prepared.{index_length, number_place, number_in};
+ghost use Rattle.prepared.specs.Prepared.{index_length, number_place, number_in, Prepared, table_in};
 ghost use Rattle.preparing.specs.Filling.{filled, counted, ended, kind_place, kinds_noted, pair_noted, pairs_noted, index_of, Laid};
 
 use prepared::{Component, INDEX};
@@ -102,11 +102,13 @@ fn note_counts(counts: &[usize], index: &mut [u32])
     }
 }
 
-// The component of an accepted table: its rows, with the index that is made of them.
+// The index of an accepted table. With the table's rows it makes the component, in place where the caller keeps it. It stays a call, so that the
+// caller's stack has the index once.
+#[inline(never)]
 #[tactic(auto, using(crate::proofs::Whole::laid, crate::proofs::Cells::edges_room, crate::proofs::Cells::acts_room))]
-pub fn prepare(t: Table) -> Component
-    requires { Passes t }
-    ensures { (result.rows ≡ t.rows) × (result.index ≡ index_of (table_of t)) × (held result ≡ table_of t) }
+pub fn index_of(t: &Table) -> [u32; INDEX]
+    requires { Passes t.now }
+    ensures { (result ≡ index_of (table_of t.now)) × Prepared t.now.rows result × (table_in t.now.rows result ≡ table_of t.now) }
 {
     let mut index = [0u32; INDEX];
     note_counts(&t.counts, &mut index);
@@ -131,10 +133,18 @@ pub fn prepare(t: Table) -> Component
         &mut index,
         prepared::ACTS,
     );
-    note_kinds(&t, &mut index);
-    note_pairs(&t, &mut index);
+    note_kinds(t, &mut index);
+    note_pairs(t, &mut index);
+    index
+}
+
+// The component of an accepted table: its rows, with the index that is made of them.
+pub fn prepare(t: Table) -> Component
+    requires { Passes t }
+    ensures { (result.rows ≡ t.rows) × (result.index ≡ index_of (table_of t)) × (held result ≡ table_of t) }
+{
     Component {
         rows: t.rows,
-        index,
+        index: index_of(&t),
     }
 }

@@ -6,8 +6,6 @@ ghost use Rattle.std.specs.Prelude.{◌≡◌, [], ◌∷◌, ◌+◌, ◌≤◌
 ghost use Rattle.text.specs.Parts.{split_on};
 ghost use Rattle.text.specs.Put.{Put};
 ghost use Rattle.model.specs.Sound.{sound};
-ghost use Rattle.table.specs.Checks.{Passes as accepts};
-ghost use Rattle.table.specs.Tables.{table_of};
 ghost use Rattle.prepared.specs.Held.{held};
 ghost use Rattle.saved.specs.Rows.{row_text};
 ghost use Rattle.tally.specs.Tallies.{most_count, lines_of, Roomy};
@@ -18,7 +16,6 @@ ghost use Rattle.reaching.specs.Passing.{passed, Passes, Turned};
 use engine::{Going, Ran, Stop};
 use model::State;
 use prepared::Component;
-use table::Table;
 
 // How much room the rows of kept cycles have, which are not told here.
 const SCRATCH: usize = 4096;
@@ -36,7 +33,9 @@ pub struct Turn {
     pub over: bool,
 }
 
-// Goes through a log's lines, up to its end or the first refusal, and tells nothing of them.
+// Goes through a log's lines, up to its end or the first refusal, and tells nothing of them. This and `put_row` stay calls, so that what they keep
+// is on the stack only while they run.
+#[inline(never)]
 fn pass(component: &Component, log: &[u8], start: Going) -> Ran
     requires { Ready (held component.now) start × Roomy start.tally (length log.now) }
     ensures { Passes (passed (held component.now) start.state start.tally (split_on 10 log.now)) result }
@@ -65,6 +64,7 @@ fn put_pair(pair: &mut [u64], number: u64, line: u64)
 }
 
 // Writes a sound state's row, or nothing where it does not fit.
+#[inline(never)]
 fn put_row(component: &Component, state: State, out: &mut [u8]) -> usize
     requires { T (sound (held component.now) state) }
     ensures { Put out.old 0 (row_text (held component.now) state) result out.new }
@@ -84,19 +84,17 @@ fn put_reached(component: &Component, state: State, out: &mut [u8], pair: &mut [
     end
 }
 
-// The row that a log reaches, judged against an accepted table.
-fn reach_log(table: Table, log: &[u8], out: &mut [u8], pair: &mut [u64]) -> usize
-    requires { accepts table }
-    ensures { Reaches (log_reach (table_of table) log.now) out.old pair.old result out.new pair.new }
+// The row that a log reaches, judged against a component.
+fn reach_log(component: &Component, log: &[u8], out: &mut [u8], pair: &mut [u64]) -> usize
+    ensures { Reaches (log_reach (held component.now) log.now) out.old pair.old result out.new pair.new }
 {
-    let component = preparing::prepare(table);
-    let ran = pass(&component, log, engine::fresh_going());
+    let ran = pass(component, log, engine::fresh_going());
     let refusal = judging::refusal_of(ran.stop);
     if refusal != 0 {
         put_pair(pair, refusal, ran.going.tally.lines() + 1);
         return 0;
     }
-    put_reached(&component, ran.going.state, out, pair)
+    put_reached(component, ran.going.state, out, pair)
 }
 
 // The recorder's call: the row of the state behind a log's last line, with its newline. Answers its length; or 0 with the buffer unchanged where
@@ -105,8 +103,15 @@ fn reach_log(table: Table, log: &[u8], out: &mut [u8], pair: &mut [u64]) -> usiz
 pub fn reached(table: &[u8], log: &[u8], out: &mut [u8], pair: &mut [u64]) -> usize
     ensures { Reaches (reach_on table.now log.now) out.old pair.old result out.new pair.new }
 {
-    match table::read_table(table) {
-        Ok(table) => reach_log(table, log, out, pair),
+    let read = table::read_table(table);
+    match &read {
+        Ok(table) => {
+            let component = Component {
+                rows: table.rows,
+                index: preparing::index_of(table),
+            };
+            reach_log(&component, log, out, pair)
+        }
         Err(refused) => {
             put_pair(pair, refused.fault.number(), refused.line as u64);
             0

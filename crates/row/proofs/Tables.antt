@@ -17,7 +17,7 @@ use Rattle.std.specs.Prelude.{map, nat_eq, slice_get, Option, Some, None, MatchO
 use Rattle.std.proofs.lemmas.Option.{slice_get_past, slice_get-get_or}
 use Rattle.std.specs.List.{position_from}
 use Rattle.std.specs.Cmp.Lexicographic.{pointwise}
-use Rattle.row.specs.Kinds.{RowKind, none, kinds, said, kind_at, word_of, most_of, words_in}
+use Rattle.row.specs.Kinds.{RowKind, none, kinds, said, most_fields, kind_at, word_of, most_of, words_in}
 
 -- the test holds of every entry
 abbrev pub every : {A : Type 0} → (A → Bool) → List A → Bool
@@ -39,7 +39,16 @@ pub most_within : (k : ℕ) → most_of k < 4294967296
 unfolding most_of
 most_within k = ltb-true _ _ (of_kind (λ x. ltb x.most 4294967296) k refl refl)
 
--- no byte below 48 stands in a word
+-- no kind has more fields than are stored of a row
+pub fields_within : (k : ℕ) → length (kind_at k).fields ≤ most_fields
+fields_within k = leb-true _ _ (of_kind (λ x. leb (length x.fields) most_fields) k refl refl)
+
+-- no word has more letters than 5
+pub word_width : (k : ℕ) → length (word_of k) ≤ 5
+unfolding word_of
+word_width k = leb-true _ _ (of_kind (λ x. leb (length x.word) 5) k refl refl)
+
+-- nor a byte below 48
 pub word_high : (k : ℕ) → every (leb 48) (word_of k) ≡ true
 unfolding word_of
 word_high k = of_kind (λ x. every (leb 48) x.word) k refl refl

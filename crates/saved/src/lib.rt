@@ -185,7 +185,8 @@ fn acts_said(
     acts
 }
 
-// The state that the values of a row say.
+// The state that the values of a row say. It stays a call: the rows on the way to the state are off the stack when it is tested.
+#[inline(never)]
 fn state_from(component: &Component, values: &[u64]) -> State
     requires { (length values.now ≡ most_values) }
     ensures { result ≡ state_from (held component.now) values.now }

@@ -52,7 +52,10 @@ pub fn step(t: Table, s: State, line: &[u8]) -> Stepped
             state: s,
         };
     };
-    let component = preparing::prepare(t);
+    let component = Component {
+        rows: t.rows,
+        index: preparing::index_of(&t),
+    };
     if !soundness::is_sound(&component, s) {
         return Stepped {
             number: 19,

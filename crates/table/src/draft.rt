@@ -300,7 +300,7 @@ impl Draft {
     // Stores the row of a line behind those that are there, where its check accepts it.
     pub fn add(&mut self, r: Row, line: usize) -> Result<(), Refused>
         requires { Worded r × (r.b ≤ ether_value) }
-        ensures { MatchResult result (λ u. (row_fault (drafted self.old) r ≡ 0) × (drafted self.new ≡ add_row (drafted self.old) r)) (λ e. (number_of e.fault ≡ row_fault (drafted self.old) r) × (e.line ≡ line)) }
+        ensures { MatchResult result (λ u. (row_fault (drafted self.old) r ≡ 0) × (drafted self.new ≡ add_row (drafted self.old) r)) (λ e. (number_of e.fault ≡ row_fault (drafted self.old) r) × (e.line ≡ line) × (self.new ≡ self.old)) }
     {
         self.check(r).map_err(|fault| fault.at(line))?;
         self.store(r);

@@ -142,7 +142,9 @@ fn finish(draft: &Draft, line: usize, count: u64, s: &[u8], at: usize) -> Result
     draft.close(line)
 }
 
-// Reads a table's text: the table, or its refusal. The place is kept by hand, since what stands behind the `end` row is read from there.
+// Reads a table's text: the table, or its refusal. The place is kept by hand, since what stands behind the `end` row is read from there. It stays
+// a call, so that what it keeps while it reads is off the stack again when the log is judged.
+#[inline(never)]
 pub fn read_table(s: &[u8]) -> Result<Table, Refused>
     ensures { says result ≡ read_table s.now }
 {

@@ -1,20 +1,21 @@
 -- What an accepted step adds to the tally, by its kind, and that there is room for it, and for a `state` row.
-use Prim.Native.Nat.{ℕ, ◌<◌}
-use mathlib.Core.Bool.{false}
+use Prim.Native.Nat.{ℕ, ◌+◌, ◌≤◌, ◌<◌}
+use mathlib.Core.Bool.{Bool, true, false}
 use mathlib.Core.Path.{◌≡◌, refl}
 use native.Mathlib.Omega.{arith}
 use native.Mathlib.Nat.{add-zero}
+use Rattle.text.specs.Parts.{pick}
 use Rattle.text.specs.declared.Set.{Set}
 use Rattle.model.specs.Tables.{Table}
 use Rattle.model.specs.States.{task_at}
 use Rattle.model.specs.Logs.{is_wait}
-use Rattle.model.specs.Cycles.{Verdict, none, kept, dropped, verdict, opens}
+use Rattle.model.specs.Cycles.{Verdict, none, kept, dropped, verdict, opens, drops}
 use Rattle.model.specs.declared.State.{State}
 use Rattle.model.specs.declared.TaskStep.{TaskStep}
 use Rattle.model.specs.declared.TaskStep.TheVariants.{St, Fm}
 use Rattle.model.specs.declared.Step.{Step}
-use Rattle.model.specs.declared.Step.TheVariants.{Wait, Sm, OfTask}
-use Rattle.tally.specs.Tallies.{ruling_of, counted, tallied, after_wait, after_sm, after_step, after_row, ruling_by, Roomy}
+use Rattle.model.specs.declared.Step.TheVariants.{Wait, Sm, OfTask, OfAct}
+use Rattle.tally.specs.Tallies.{ruling_of, keeps_one, counted, tallied, after_wait, after_sm, after_step, after_row, ruling_by, Roomy}
 use Rattle.tally.specs.declared.Tally.{Tally}
 use Rattle.tally.specs.declared.Ruling.{Ruling}
 use Rattle.tally.specs.declared.Ruling.TheVariants.{Open, Kept, Dropped}
@@ -64,3 +65,33 @@ module _ (c : Tally) (n : ℕ) (R : Roomy c n) where
     -- a `state` row
     pub row_roomy : Roomy (after_row c) m
     row_roomy = record { lines = omega arith; opened = omega arith; kept = omega arith; dropped = omega arith; since = omega arith }
+
+-- and for any step, by its verdict
+pub counted_roomy : (x : Step) (v : Verdict) (c : Tally) {n m : ℕ} → Roomy c n → m < n → Roomy (counted x v c) m
+counted_roomy x v c R h = record {
+  lines = omega (arith, R.lines);
+  opened = omega (arith, R.opened, opens_most x);
+  kept = omega (arith, R.kept, keeps_most v);
+  dropped = omega (arith, R.dropped, drops_most v);
+  since = omega (arith, R.since, since_most (is_wait x) c.since);
+}
+  where
+    opens_most : (x : Step) → opens x ≤ 1
+    opens_most (Wait d) = omega arith
+    opens_most (Sm t n r) = omega arith
+    opens_most (OfTask t k) = omega arith
+    opens_most (OfAct a k) = omega arith
+
+    since_most : (w : Bool) (k : ℕ) → pick w 0 (k + 1) ≤ k + 1
+    since_most true k = omega arith
+    since_most false k = omega arith
+
+    keeps_most : (v : Verdict) → keeps_one v ≤ 1
+    keeps_most none = omega arith
+    keeps_most (kept r) = omega arith
+    keeps_most dropped = omega arith
+
+    drops_most : (v : Verdict) → drops v ≤ 1
+    drops_most none = omega arith
+    drops_most (kept r) = omega arith
+    drops_most dropped = omega arith

@@ -166,7 +166,9 @@ fn line_of(refusal: u64, lines: u64) -> u64
     if refusal == 0 { 0 } else { lines + 1 }
 }
 
-// The numbers of the `sum` row where judging ends with a refusal, 0 for none. The refusal stays a number here: the row is promised for any.
+// The numbers of the `sum` row where judging ends with a refusal, 0 for none. The refusal stays a number here: the row is promised for any. It stays a call:
+// it is handed the state whole, which need not lie on the stack while a log is judged.
+#[inline(never)]
 pub fn sum_numbers(component: &Component, s: State, tally: Tally, refusal: u64) -> [u64; 9]
     requires { lines_of tally ≤ most_count }
     ensures { result ≡ sum_numbers (sum_of (held component.now) s tally refusal) }

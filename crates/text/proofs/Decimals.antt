@@ -1,34 +1,47 @@
--- A decimal number: its width found by its logarithm, and each exit of reading and writing it.
-use Prim.Native.Nat.{ℕ, ◌+◌, ◌*◌, ◌^◌, ◌≤◌, ◌<◌}
+-- A decimal number: its width found power by power, and each exit of reading and writing it.
+use Prim.Native.Nat.{ℕ, suc, ◌+◌, ◌-◌, ◌*◌, ◌^◌, ◌≤◌, ◌<◌}
 use mathlib.Core.Path.{◌≡◌, sym, ◌∙◌}
 use mathlib.Core.List.{List}
 use native.Mathlib.Omega.{arith}
 use native.Mathlib.Numerals.{add-one}
-use native.Mathlib.Nat.{pow-succ'}
+use native.Mathlib.Nat.{pow-suc, pow-le-pow_right}
 use lib.ListN.{length, get_or}
 use lib.Seq.{sets}
 use borrow.Author.Tests.{lt-ltb, le-ltb, eq-eqb, ne_eqb}
 use Rattle.std.specs.Prelude.{Option, None}
 use Rattle.text.specs.Digits.{scan, pad}
-use Rattle.text.specs.Number.{widest, read_number, width_of, digits}
-use Rattle.text.proofs.Picks.{order}
-use Rattle.text.proofs.Numbers.{length_digits, width_within, width_bound, width_narrow, ten_le}
+use Rattle.text.specs.Number.{width_from, widest, read_number, width_of, digits}
+use Rattle.text.proofs.Numbers.{length_digits}
 
--- a number below ten has one digit
-pub width_one : (n : ℕ) → n < 10 → 1 ≡ width_of n
-width_one n h = omega (arith, width_within n, width_bound n 1 h (omega arith))
+-- how many digits a number has
+module _ (n w r : ℕ) (now : width_from (20 - w) w n ≡ r) where
+  module _ (p : ℕ) (e : p ≡ 10 ^ w) (h : w < 20) where
+    fuel : 20 - w ≡ suc (20 - suc w)
+    fuel = omega arith
 
--- and another one more than its logarithm
-pub width_log : (n k : ℕ) → 10 ≤ n → 10 ^ k ≤ n → n < 10 * 10 ^ k → k < 20 → k + 1 ≡ width_of n
-width_log n k many low high most =
-    let s : 10 ^ (k + 1) ≡ 10 * 10 ^ k = rw (add-one, pow-succ') in
-    let above : width_of n ≤ k + 1 = width_bound n (k + 1) (omega arith) (omega arith) in
-    order k (width_of n)
-    (λ h. omega arith)
-    (λ h.
-    let b : n < 10 ^ width_of n = width_narrow n (omega arith) in
-    let p = ten_le {i = width_of n} {j = k} h in
-    absurd (omega arith))
+    -- the first power above the number
+    pub width_here : n < p → w ≡ r
+    width_here l = let k : n < 10 ^ w = rw e at l in rw (fuel, lt-ltb _ _ k) at now
+
+    -- a power that is not above it
+    pub width_more : p ≤ n → width_from (20 - (w + 1)) (w + 1) n ≡ r
+    width_more l = let k : 10 ^ w ≤ n = rw e at l in rw (add-one w) (rw (fuel, le-ltb _ _ k) at now)
+
+    -- one more than the widest is the most that there are
+    pub width_last : 19 ≤ w → p ≤ n → w + 1 ≡ r
+    width_last m l = let z : 20 - (w + 1) ≡ 0 = omega arith in rw z at (width_more l)
+
+-- the powers of ten up to the widest fit
+power_most : (w : ℕ) → w ≤ 19 → 10 ^ w ≤ 10000000000000000000
+power_most w h = pow-le-pow_right (omega arith) h
+
+-- the next power of ten, and that it fits
+module _ (w p : ℕ) (e : p ≡ 10 ^ w) where
+  pub power_next : p * 10 ≡ 10 ^ (w + 1)
+  power_next = rw (e, add-one, pow-suc)
+
+  pub power_small : w < 19 → p * 10 < 18446744073709551616
+  power_small h = omega (arith, power_next, power_most (w + 1) (omega arith))
 
 -- the digits of a number are as many as it is wide
 module _ (n w : ℕ) (e : w ≡ width_of n) where

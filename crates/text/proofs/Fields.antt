@@ -8,15 +8,12 @@ use lib.ListN.{length, drop, take}
 use borrow.Author.Tests.{le-leb, lt-leb}
 use Rattle.std.specs.Prelude.{Option, Some, None}
 use Rattle.std.proofs.lemmas.Option.{none-some, some_pair_parts}
-use Rattle.std.specs.List.{slice_split, onto_first, position_or_len, position_from}
-use Rattle.std.proofs.lemmas.Iterator.Adapters.{position_from-zero}
-use lib.Dec.{eqb, ltb}
-use mathlib.Core.Bool.{cond}
-use Rattle.text.specs.Parts.{split_on, on_head, first_at, parts_from, field_from, field_at}
+use mathlib.Core.Bool.{true, false}
+use Rattle.text.specs.Parts.{first_at, parts_from, field_from, field_at}
 use Rattle.text.specs.Words.{same_list, index_from, word_in, word_at}
 use Rattle.text.specs.Fields.{got_at, behind}
 use Rattle.text.proofs.Parts.{Stands, first_at_le, parts_cut, parts_none, parts_all, cut_length}
-use Rattle.text.proofs.Picks.{cases, order}
+use Rattle.text.proofs.Picks.{order}
 use Rattle.text.proofs.Words.{word_stands, word_past}
 
 -- the field behind the tab at a place, read by a form
@@ -83,30 +80,30 @@ module _ (s : List ℕ) (at e : ℕ) (h : at ≤ length s) (f : e ≡ first_at s
       pub field_gone : length s ≤ e → None ≡ r
       field_gone l = let k : length s < e + 1 = omega arith in rw (parts_none 9 s (e + 1) k) at field_more
 
+  -- which word it is
+  module _ (k : ℕ) (p : List ℕ) (r : Option ℕ) (now : index_from k p (parts_from 9 s at) ≡ r) where
+    -- this part is the word
+    pub word_here : same_list p (take (e - at) (drop at s)) ≡ true → Some k ≡ r
+    word_here y = rw (cut, y) at now
+
+    module _ (n : same_list p (take (e - at) (drop at s)) ≡ false) where
+      -- the word comes later
+      pub word_more : index_from (k + 1) p (parts_from 9 s (e + 1)) ≡ r
+      word_more = rw (add-one k) (rw (cut, n) at now)
+
+      -- no part is left
+      pub word_gone : length s ≤ e → None ≡ r
+      word_gone l = let j : length s < e + 1 = omega arith in rw (parts_none 9 s (e + 1) j) at word_more
+
 -- every field is looked for from the first part on
 pub field_start : (s : List ℕ) (i : ℕ) → field_from 0 (parts_from 9 s 0) i ≡ field_at s i
 unfolding field_at
 field_start s i = rw (parts_all 9 s)
 
--- the parts of a text are the slices between its bytes c
-onto_head : (b : ℕ) (ls : List (List ℕ)) → onto_first b ls ≡ on_head b ls
-onto_head b [] = refl
-onto_head b (l ∷ ls) = refl
-
-slices_parts : (c : ℕ) (s : List ℕ) → slice_split (λ b. eqb b c) s ≡ split_on c s
-slices_parts c [] = refl
-slices_parts c (b ∷ bs) = cases (eqb b c) (λ e. rw (e, slices_parts c bs)) (λ e. rw (e, slices_parts c bs, onto_head b (split_on c bs)))
-
--- and the first word that p is has the first place among them at which p stands
-index_position : (ws : List (List ℕ)) (p : List ℕ) (k : ℕ) → position_from (same_list p) k ws ≡ index_from k p ws
-index_position [] p k = refl
-index_position (w ∷ ws) p k = cases (same_list p w) (λ e. rw e) (λ e. rw (e, add-one) (index_position ws p (suc k)))
-
-pub word_found : (words p : List ℕ) → {r : Option ℕ}
-    → r ≡ cond (ltb (position_or_len (same_list p) (slice_split (λ b. eqb b 9) words)) (length (slice_split (λ b. eqb b 9) words))) (Some (position_or_len (same_list p) (slice_split (λ b. eqb b 9) words))) None
-    → r ≡ word_in words p
+-- and every word
+pub word_start : (s p : List ℕ) → index_from 0 p (parts_from 9 s 0) ≡ word_in s p
 unfolding word_in
-word_found words p e = e ∙ position_from-zero (same_list p) (slice_split (λ b. eqb b 9) words) ∙ rw (slices_parts 9 words) (index_position (split_on 9 words) p 0)
+word_start s p = rw (parts_all 9 s)
 
 -- a word of a set, where the field of its number was looked for
 module _ (words : List ℕ) (i : ℕ) (f : Option (ℕ × ℕ)) (e : f ≡ field_at words i) where

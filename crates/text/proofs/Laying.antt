@@ -1,13 +1,13 @@
 -- A text laid into a buffer: whether there is room for it, and its bytes copied.
-use Prim.Native.Nat.{ℕ, ◌+◌, ◌-◌, ◌≤◌}
+use Prim.Native.Nat.{ℕ, suc, ◌+◌, ◌≤◌, ◌<◌}
 use mathlib.Core.Path.{◌≡◌, sym, ◌∙◌}
-use mathlib.Core.List.{List, append_assoc}
+use mathlib.Core.List.{List}
 use mathlib.Core.Bool.{Bool, true, false, not}
 use native.Mathlib.Omega.{arith}
-use lib.ListN.{length, take, drop}
-use lib.Seq.{sets, drop-drop}
-use borrow.Rule.Slice.PartMut.{put_mid}
-use Rattle.std.proofs.lemmas.List.Edits.{sets-eq}
+use native.Mathlib.Numerals.{add-one}
+use native.Mathlib.Nat.{add-zero}
+use lib.ListN.{length, get_or, drop, set, drop_of_length-le}
+use lib.Seq.{drop-cons, sets}
 use lib.Dec.{leb}
 use borrow.Author.Tests.{leb-true, not-true, not-false}
 use Rattle.text.specs.Put.{Put}
@@ -28,8 +28,16 @@ module _ (buf : List ℕ) (at many : ℕ) (fit : Bool) (e : fit ≡ leb (at + ma
   pub put_room : at + many ≤ length buf
   put_room = leb-true _ _ (sym e ∙ not-false fit y)
 
--- a text that was copied into its part of the buffer
-pub copied : (buf s new : List ℕ) (at : ℕ) → at + length s ≤ length buf → new ≡ s → put_mid at (at + length s - at) buf new ≡ sets buf at s
-copied buf s new at h e =
-    let k : at + length s - at ≡ length s = omega arith in
-    rw (e, k, sets-eq s buf at h, append_assoc (take at buf) s (drop (at + length s) buf), drop-drop (length s) at buf)
+-- before the first byte of a text is copied
+pub copy_start : (buf s : List ℕ) (at : ℕ) → sets buf (at + 0) s ≡ sets buf at s
+copy_start buf s at = rw add-zero
+
+-- the bytes of a text, one after the other
+module _ (buf : List ℕ) (at i : ℕ) (s r : List ℕ) (now : sets buf (at + i) (drop i s) ≡ r) where
+  -- a byte is stored
+  pub copy_more : i < length s → sets (set buf (at + i) (get_or s i 0)) (at + (i + 1)) (drop (i + 1) s) ≡ r
+  copy_more h = let e : at + suc i ≡ suc (at + i) = omega arith in rw (add-one i, e) (rw (drop-cons s i 0 h) at now)
+
+  -- no byte is left
+  pub copy_end : length s ≤ i → buf ≡ r
+  copy_end h = rw (drop_of_length-le s h) at now

@@ -180,10 +180,14 @@ impl Set {
 pub fn width(n: u64) -> usize
     ensures { result ≡ width_of n }
 {
-    if n < 10 {
-        return 1;
+    let mut power: u64 = 10;
+    for w in 1..WIDEST {
+        if n < power {
+            return w;
+        }
+        power *= 10;
     }
-    n.ilog10() as usize + 1
+    if n < power { WIDEST } else { WIDEST + 1 }
 }
 
 // Is there room for so many bytes at a place of a buffer of that length?
@@ -237,9 +241,10 @@ pub fn put_bytes(buf: &mut [u8], at: usize, s: &[u8]) -> usize
     if !fits(buf.len(), at, s.len()) {
         return at;
     }
-    let end = at + s.len();
-    buf[at..end].copy_from_slice(s);
-    end
+    for (i, b) in s.iter().enumerate() {
+        buf[at + i] = *b;
+    }
+    at + s.len()
 }
 
 // What a field says as a codel's number or `ether`.
@@ -299,7 +304,18 @@ pub fn nth_field(line: &[u8], i: usize) -> Option<(usize, usize)>
 pub fn word_in(words: &[u8], p: &[u8]) -> Option<usize>
     ensures { result ≡ word_in words.now p.now }
 {
-    words.split(|b| *b == TAB).position(|word| p == word)
+    let mut at = 0;
+    for k in 0..words.len() + 1 {
+        let e = next_byte(words, at, TAB);
+        if p == &words[at..e] {
+            return Some(k);
+        }
+        if words.len() <= e {
+            return None;
+        }
+        at = e + 1;
+    }
+    None
 }
 
 // Word i of a set; nothing past the last.

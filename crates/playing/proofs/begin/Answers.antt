@@ -1,29 +1,24 @@
 use mathlib.Core.Path.{◌≡◌, refl, sym, ◌∙◌}
 use native.Mathlib.Omega.{arith}
 use borrow.Author.Rules.{rules}
-use lib.ListN.{length}
-use Rattle.model.specs.Limits.{most_tasks, most_acts}
 use Rattle.model.proofs.Tests.{true_T}
 use Rattle.prepared.specs.Held.{held}
 use Rattle.prepared.proofs.Stored.{most_tasks_lem, most_acts_lem}
 use Rattle.saved.proofs.Filling.{own_task}
 use Rattle.saved.proofs.InPlace.{date_read, task_is, act_is}
-use Rattle.waits.proofs.Holders.{rows_long}
 use Rattle.playing.proofs.Beginning.{acts_long, taken_none, taken_task, taken_all, taken_act, taken_row, opened_few, one_few}
 use Rattle.playing.proofs.begin.Goals as goal
 
 pub loop-t-init : goal.loop-t-init
 loop-t-init c =
-    let n : length c.args.g.state.tasks ≡ most_tasks = search rows_long in
-    let m : length c.args.g.busy ≡ most_acts = search rules in
     let R = c.requires.0 in
-    taken_none c.args.g.state (date_read _ _ c.requires.1 c.date_at-date.ensures) R.busy R.listed n (acts_long R m) (search rules) (search rules)
+    taken_none c.args.going.now.state (date_read _ _ c.requires.1 c.date_at-date.ensures) R.busy R.listed c.requires.3 (acts_long R c.requires.4) (search rules) (search rules)
 
-pub offset_bounds-going-t : goal.offset_bounds-going-t
-offset_bounds-going-t c = omega (arith, most_tasks_lem c.args.component.now.prepared, c.tasks-t-end.ensures, c.loop-t-test.true)
+pub offset_bounds-begun-t : goal.offset_bounds-begun-t
+offset_bounds-begun-t c = omega (arith, most_tasks_lem c.args.component.now.prepared, c.tasks-t-end.ensures, c.loop-t-test.true)
 
-pub bounds-going-t : goal.bounds-going-t
-bounds-going-t c = omega (arith, most_tasks_lem c.args.component.now.prepared, c.tasks-t-end.ensures, c.loop-t-test.true)
+pub bounds-begun-t : goal.bounds-begun-t
+bounds-begun-t c = omega (arith, most_tasks_lem c.args.component.now.prepared, c.tasks-t-end.ensures, c.loop-t-test.true)
 
 pub offset_bounds-runs-t : goal.offset_bounds-runs-t
 offset_bounds-runs-t c = omega (arith, most_tasks_lem c.args.component.now.prepared, c.tasks-t-end.ensures, c.loop-t-test.true)
@@ -69,4 +64,4 @@ overflow_add-result c = omega (arith, c.if-log-p-2.false, c.well_formed)
 
 pub returns : goal.returns
 returns c =
-    taken_row c.loop-a.invariant refl (omega (arith, c.acts-a-end.ensures, c.loop-a-test.false, c.loop-a.auto.a-end)) (true_T _ c.args.component.now.prepared.formed) c.if-log-p-2.false c.if-log-p-ne-NEWLINE.false (true_T _ (sym c.is_sound.ensures ∙ c.if-not-is_sound.false)) c.requires.0 (sym c.lines.ensures ∙ c.if-lines-ne0.false) c.requires.1 c.requires.2 c.begun_with-going.ensures
+    taken_row c.loop-a.invariant refl (omega (arith, c.acts-a-end.ensures, c.loop-a-test.false, c.loop-a.auto.a-end)) (true_T _ c.args.component.now.prepared.formed) c.if-log-p-2.false c.if-log-p-ne-NEWLINE.false (true_T _ (sym c.is_sound.ensures ∙ c.if-not-is_sound.false)) c.requires.0 (sym c.lines.ensures ∙ c.if-lines-ne0.false) c.requires.1 c.requires.2 c.begun_with-begun.ensures

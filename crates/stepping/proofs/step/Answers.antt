@@ -9,8 +9,8 @@ use Rattle.stepping.proofs.step.Goals as goal
 pub returns-in_default : goal.returns-in_default
 returns-in_default c = search table_refused
 
-pub prepare-component-requires : goal.prepare-component-requires
-prepare-component-requires c = search checked_fine
+pub index_of-requires : goal.index_of-requires
+index_of-requires c = search checked_fine
 
 pub returns-then-not-is_sound : goal.returns-then-not-is_sound
 returns-then-not-is_sound c = search state_unsound

@@ -1,14 +1,24 @@
 -- `word_in` meets its contract.
-use lib.Dec.{eqb}
 use borrow.Author.Rules.{rules}
 use borrow.Author.Tests.{tests}
-use Rattle.std.proofs.lemmas.Iterator.Search.{position_from_yields_List}
-use Rattle.std.proofs.lemmas.Iterator.Splits.{YieldsList-from_slice_split}
-use Rattle.text.specs.Words.{same_list}
-use Rattle.text.proofs.Fields.{word_found}
+use Rattle.text.proofs.Seeking.{part_starts, part_ends}
+use Rattle.text.proofs.Fields.{word_start, word_here, word_more, word_gone}
 use Rattle.text.proofs.word_in.Goals as goal
 
+pub loop-k-init : goal.loop-k-init
+loop-k-init c = search (rules, word_start)
+
+pub slice_bounds-eq-end : goal.slice_bounds-eq-end
+slice_bounds-eq-end c = search (rules, part_ends)
+
+pub returns-then-eq : goal.returns-then-eq
+returns-then-eq c = search (rules, word_here)
+
+pub returns-then-words-e : goal.returns-then-words-e
+returns-then-words-e c = search (rules, word_gone)
+
+pub loop-k-preserved : goal.loop-k-preserved
+loop-k-preserved c = (search (rules, part_starts), search rules, word_more _ _ _ c.loop-k.invariant.1 c.next_byte-e.ensures _ _ _ c.loop-k.invariant.2 (search (rules, tests)))
+
 pub returns : goal.returns
-returns c =
-    let cut = c.split.ensures in
-    word_found _ _ (position_from_yields_List (same_list c.args.p.now) _ _ _ c.position.ensures.ran (YieldsList-from_slice_split _ (λ b. eqb b 9) c.args.words.now cut.rest cut.done cut.closure (λ x b q k. search (rules, tests))) (λ x b q k. search (rules, tests)))
+returns c = absurd (search rules)
