@@ -13,7 +13,7 @@ use model::Refusal;
 use prepared::Component;
 
 // Takes a `state` row's line on line 1, without its newline, or answers its refusal: it sets the state, and what manages there counts as opened.
-// This and the next two change what is carried in place and stay calls, so that a run has the stack.
+// This, `take_later` and `begin` change what is carried in place and stay calls, so that a run has the stack.
 #[inline(never)]
 fn take_first(component: &Component, line: &[u8], going: &mut Going) -> Result<(), Refusal>
     requires { Ready (held component.now) going.old × (lines_of going.old.tally ≡ 0) }

@@ -1,6 +1,6 @@
 -- What the lines of a log leave to those that follow: a sound state, and counts that grew by no more than there are bytes.
 use Prim.Native.Nat.{ℕ, suc, ◌+◌, ◌*◌, ◌≤◌}
-use mathlib.Core.Bool.{Bool, true, false}
+use mathlib.Core.Bool.{false}
 use mathlib.Core.List.{List, [], ◌∷◌}
 use mathlib.Core.Path.{◌≡◌, refl, ap}
 use native.Mathlib.Omega.{arith}
@@ -8,17 +8,16 @@ use lib.Dec.{eqb, leb}
 use lib.ListN.{length, length-append}
 use borrow.Author.Tests.{eqb-true}
 use Rattle.std.specs.Prelude.{Option, Some, None}
-use Rattle.text.specs.Parts.{pick, split_on, join_on}
+use Rattle.text.specs.Parts.{split_on, join_on}
 use Rattle.text.proofs.Picks.{cases}
 use Rattle.text.proofs.Parts.{join_split}
 use Rattle.model.specs.Tests.{accepted}
 use Rattle.model.specs.Tables.{Table}
 use Rattle.model.specs.Rules.{refusal, next}
 use Rattle.model.specs.Logs.{is_wait}
-use Rattle.model.specs.Cycles.{Verdict, none, kept, dropped, verdict, opens, drops, managing}
+use Rattle.model.specs.Cycles.{Verdict, none, kept, dropped, verdict, managing}
 use Rattle.model.specs.declared.State.{State}
 use Rattle.model.specs.declared.Step.{Step}
-use Rattle.model.specs.declared.Step.TheVariants.{Wait, Sm, OfTask, OfAct}
 use Rattle.model.proofs.Formed.{Formed}
 use Rattle.model.proofs.Soundness.{Sound}
 use Rattle.model.proofs.StepsKeep.{step_keeps}
@@ -27,8 +26,9 @@ use Rattle.saved.specs.Rows.{begins_row}
 use Rattle.entries.specs.Entries.{row_state, row_number, row_refusal, resumed}
 use Rattle.entries.proofs.Owning.{RowLaws}
 use Rattle.report.specs.Rows.{cycle_of, cycle_text}
-use Rattle.tally.specs.Tallies.{keeps_one, counted, tallied, lines_of, after_row, began, Roomy}
+use Rattle.tally.specs.Tallies.{counted, tallied, lines_of, after_row, began, Roomy}
 use Rattle.tally.specs.declared.Tally.{Tally}
+use Rattle.tally.proofs.Tallying.{opens_most, since_most, verdict_most}
 use Rattle.engine.specs.Play.{Played, on_verdict, on_line, played, is_row}
 
 -- each count grew by n at most
@@ -64,21 +64,6 @@ grown_more g h = record {
 }
 
 -- a step adds one at most to each
-opens_most : (x : Step) → opens x ≤ 1
-opens_most (Wait d) = omega arith
-opens_most (Sm t n r) = omega arith
-opens_most (OfTask t k) = omega arith
-opens_most (OfAct a k) = omega arith
-
-since_most : (w : Bool) (n : ℕ) → pick w 0 (n + 1) ≤ n + 1
-since_most true n = omega arith
-since_most false n = omega arith
-
-verdict_most : (v : Verdict) → keeps_one v + drops v ≤ 1
-verdict_most none = omega arith
-verdict_most (kept r) = omega arith
-verdict_most dropped = omega arith
-
 grown_step : (n : ℕ) (x : Step) (v : Verdict) (c : Tally) → Grown (suc n) c (counted x v c)
 grown_step n x v c =
     let h = opens_most x in

@@ -66,32 +66,28 @@ module _ (c : Tally) (n : ℕ) (R : Roomy c n) where
     pub row_roomy : Roomy (after_row c) m
     row_roomy = record { lines = omega arith; opened = omega arith; kept = omega arith; dropped = omega arith; since = omega arith }
 
--- and for any step, by its verdict
+-- a step and its verdict add one at most to what they count
+pub opens_most : (x : Step) → opens x ≤ 1
+opens_most (Wait d) = omega arith
+opens_most (Sm t n r) = omega arith
+opens_most (OfTask t k) = omega arith
+opens_most (OfAct a k) = omega arith
+
+pub since_most : (w : Bool) (n : ℕ) → pick w 0 (n + 1) ≤ n + 1
+since_most true n = omega arith
+since_most false n = omega arith
+
+pub verdict_most : (v : Verdict) → keeps_one v + drops v ≤ 1
+verdict_most none = omega arith
+verdict_most (kept r) = omega arith
+verdict_most dropped = omega arith
+
+-- so there is room for any step, by its verdict
 pub counted_roomy : (x : Step) (v : Verdict) (c : Tally) {n m : ℕ} → Roomy c n → m < n → Roomy (counted x v c) m
 counted_roomy x v c R h = record {
   lines = omega (arith, R.lines);
   opened = omega (arith, R.opened, opens_most x);
-  kept = omega (arith, R.kept, keeps_most v);
-  dropped = omega (arith, R.dropped, drops_most v);
+  kept = omega (arith, R.kept, verdict_most v);
+  dropped = omega (arith, R.dropped, verdict_most v);
   since = omega (arith, R.since, since_most (is_wait x) c.since);
 }
-  where
-    opens_most : (x : Step) → opens x ≤ 1
-    opens_most (Wait d) = omega arith
-    opens_most (Sm t n r) = omega arith
-    opens_most (OfTask t k) = omega arith
-    opens_most (OfAct a k) = omega arith
-
-    since_most : (w : Bool) (k : ℕ) → pick w 0 (k + 1) ≤ k + 1
-    since_most true k = omega arith
-    since_most false k = omega arith
-
-    keeps_most : (v : Verdict) → keeps_one v ≤ 1
-    keeps_most none = omega arith
-    keeps_most (kept r) = omega arith
-    keeps_most dropped = omega arith
-
-    drops_most : (v : Verdict) → drops v ≤ 1
-    drops_most none = omega arith
-    drops_most (kept r) = omega arith
-    drops_most dropped = omega arith
